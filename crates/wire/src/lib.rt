@@ -1,0 +1,5 @@
+// Words and pointer words of Cap'n Proto messages: packing and unpacking, sizes in words, and the kinds of list elements.
+mod bits;
+pub mod elements;
+pub mod pointers;
+pub mod sizes;
