@@ -12,7 +12,7 @@ picked word k n = word / 2 ^ k % 2 ^ n
 
 -- the word with these bits replaced by b
 abbrev pub patched : (word k n b : ℕ) → ℕ
-patched word k n b = word / 2 ^ (k + n) * 2 ^ (k + n) + b * 2 ^ k + word % 2 ^ k
+patched word k n b = word / 2 ^ (n + k) * 2 ^ (n + k) + b * 2 ^ k + word % 2 ^ k
 
 -- ## Element i of a list of a code
 

@@ -4,3 +4,4 @@ pub mod Sizes
 pub mod Elements
 pub mod Kinds
 pub mod Parts
+pub mod Worked

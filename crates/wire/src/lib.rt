@@ -3,3 +3,4 @@ mod bits;
 pub mod elements;
 pub mod pointers;
 pub mod sizes;
+pub mod worked;

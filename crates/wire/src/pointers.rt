@@ -169,12 +169,7 @@ impl WirePointer {
     }
 
     // A pointer in word `position` to a list in word `target`: so many elements, of a struct list the words of its rows.
-    pub fn to_list(
-        position: usize,
-        target: usize,
-        element: ElementSize,
-        count: u32,
-    ) -> WirePointer
+    pub fn to_list(position: usize, target: usize, element: ElementSize, count: u32) -> WirePointer
         ensures word { λ r. ⌜ r .word ≡ list-pointer position target (code-of element) (count % 2 ^ 29) ⌝ }
         ensures parts { λ r. ⌜ List-parts (r .word) position target (code-of element) count ⌝ }
     {
