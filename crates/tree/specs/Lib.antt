@@ -1,0 +1,10 @@
+pub mod Value
+pub mod Shows
+pub mod Decode
+pub mod Extents
+pub mod Edits
+pub mod Loops
+pub mod Numbers
+pub mod Growth
+pub mod Words
+pub mod Laws
