@@ -9,7 +9,7 @@ use lib.Dec.{eqb, ltb}
 use lib.ListN.{length}
 use Rattle.std.proofs.shelf.Tests.{cases-lt, cases-eq, eq-eqb, ne-eqb, lt-ltb, le-ltb, and-left, and-right}
 use Rattle.wire.specs.Pointers.{pointer-kind, offset-field, data-words, pointer-words, list-code, list-count}
-use Rattle.tree.specs.Value.{Element, void, bit, byte, two-bytes, four-bytes, eight-bytes, pointer, Shape, structure, plain, composite, Value, null, object, rows, pointers, places, size, slot, number, element-code, Step, Goes, put, change}
+use Rattle.tree.specs.Value.{Element, void, bit, byte, two-bytes, four-bytes, eight-bytes, pointer, Shape, structure, plain, composite, Value, null, object, rows, pointers, places, size, slot, number, element-code, Step, value-at, put, change}
 use Rattle.tree.specs.Shows.{span, Memory, Landing, land, Paved, Describes, Body, Shows, within, reach}
 use Rattle.tree.specs.Decode.{element-of-code, shape-of, shape-at, decode, Deep}
 use Rattle.tree.proofs.Roads.{paved-live}
@@ -99,31 +99,26 @@ decodes (suc d) H a (object sh dat kid) g w h s =
     (λ i k hi hk. rw (inside-test (rows sh) (places sh) i k hi hk) (sym (s .1 .numbers i k hi hk)))
     (λ i k o. rw (outside-test (rows sh) (places sh) i k o) (sym (s .1 .no-more i k o)))
     (λ i j hi hj. rw (inside-test (rows sh) (pointers sh) i j hi hj)
-    (decodes d H a (kid i j) (l .seg) (l .pos + slot sh i j) (h i j hi hj) (s .2 i j hi hj)))
+    (decodes d H a (kid i j) (l .seg) (l .pos + slot sh i j) (h i j) (s .2 i j hi hj)))
     (λ i j o. rw (outside-test (rows sh) (pointers sh) i j o) (sym (s .3 i j o))))
 
 -- ## Depth
 
-pub deep-more : (u : Value) (e d : ℕ) → e ≤ d → Deep e u → Deep d u
-deep-more null e d h k = tt
-deep-more (object sh dat kid) zero d h k = absurd k
-deep-more (object sh dat kid) (suc e) zero h k = absurd (omega arith)
-deep-more (object sh dat kid) (suc e) (suc d) h k = λ i j hi hj. deep-more (kid i j) e d (omega arith) (k i j hi hj)
+deep-change : (kid : ℕ → ℕ → Value) (d i j : ℕ) (u : Value) → Deep d u → ((a b : ℕ) → Deep d (kid a b)) →
+    (a b : ℕ) → Deep d (change kid i j u a b)
+unfolding change
+deep-change kid d i j u n k a b =
+    elim (eqb a i && eqb b j) as (λ t. Deep d (cond t u (kid a b))) [ true ↦ n | false ↦ k a b ]
 
-pub deep-put : (p : List Step) (v u : Value) (d e : ℕ) → Goes v p → Deep d v → Deep e u → length p + e ≤ d → Deep d (put v p u)
-deep-put [] v u d e go h k l = deep-more u e d (omega arith) k
-deep-put (s ∷ p) null u d e go h k l = absurd go
-deep-put (s ∷ p) (object sh dat kid) u zero e go h k l = absurd h
-deep-put (s ∷ p) (object sh dat kid) u (suc d) e go h k l =
-    let i = s .element in
-    let j = s .pointer-number in
-    let t = put (kid i j) p u in
-    λ b c hb hc.
-    ⊎-elim
-    (λ (q : b ≡ i).
-    ⊎-elim
-    (λ (r : c ≡ j). rw (q, r, change-here kid i j t) (deep-put p (kid i j) u d e (go .1) (h i j (go .0 .1) (go .0 .2)) k (omega arith)))
-    (λ (r : c ≡ j → ⊥). rw (change-else kid i j t b c (λ _. r)) (h b c hb hc))
-    (cases-eq c j))
-    (λ (q : b ≡ i → ⊥). rw (change-else kid i j t b c (λ e _. q e)) (h b c hb hc))
-    (cases-eq b i)
+-- what stands at a path may be replaced by what is no deeper
+pub deep-put : (p : List Step) (v u : Value) (D d : ℕ) → D ≡ length p + d → Deep D v → (Deep d (value-at v p) → Deep d u) → Deep D (put v p u)
+deep-put [] v u D d e n f =
+    let same : D ≡ d = omega arith in
+    let F : Value → ℕ → Type 0 = λ x k. Deep k x in
+    subst (F u) (sym same) (f (subst (F v) same n))
+deep-put (s ∷ p) null u D d e n f = tt
+deep-put (s ∷ p) (object sh dat kid) u zero d e n f = n
+deep-put (s ∷ p) (object sh dat kid) u (suc D) d e n f =
+    deep-change kid D (s .element) (s .pointer-number) _
+    (deep-put p (kid (s .element) (s .pointer-number)) u D d (omega arith) (n (s .element) (s .pointer-number)) f)
+    n

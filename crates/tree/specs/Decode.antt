@@ -46,4 +46,4 @@ decode (suc d) H g w =
 abbrev pub Deep : ℕ → Value → Type 0
 Deep d null = Unit {0}
 Deep zero (object sh dat kid) = ⊥
-Deep (suc d) (object sh dat kid) = (i j : ℕ) → i < rows sh → j < pointers sh → Deep d (kid i j)
+Deep (suc d) (object sh dat kid) = (i j : ℕ) → Deep d (kid i j)

@@ -1,0 +1,38 @@
+-- Reads: they answer from the tree, and edit nothing.
+use mathlib.Core.List.{List, [], _∷_}
+use Prim.Native.Nat.{ℕ}
+use Rattle.wire.specs.Elements.{element-word, element-in}
+use Rattle.tree.specs.Value.{Shape, Value, null, object, Step, value-at}
+use Rattle.law.specs.Calls.{Home, field, row, item, Answer, sizes, no-sizes, value}
+use Rattle.law.specs.Machine.{no-number-in, sizes-of, Verdict, fine, wrong, judge-path}
+
+pub data Query : Type 0 where
+  -- the number of an element code at an index
+  number : Home → (code index : ℕ) → Query
+  -- the sizes of the value
+  shape : Query
+
+abbrev pub number-in : (numbers : ℕ → ℕ → ℕ) → Home → (code index : ℕ) → ℕ
+number-in dat field code i = element-in (dat 0 (element-word code i)) code i
+number-in dat (row r) code i = element-in (dat r (element-word code i)) code i
+number-in dat item code i = dat i 0
+
+abbrev pub number-of : Value → Home → (code index : ℕ) → ℕ
+number-of null h code i = 0
+number-of (object sh dat kid) h code i = number-in dat h code i
+
+abbrev pub no-answer : Query → Value → ℕ
+no-answer (number h code i) u = no-number-in h code i u
+no-answer shape u = 0
+
+abbrev pub found : Query → Value → Answer
+found (number h code i) u = value (number-of u h code i)
+found shape u = sizes-of u
+
+abbrev pub answered : Verdict → Answer → Answer
+answered fine a = a
+answered (wrong b) a = b
+
+-- the answer to a query at a place
+unfoldable pub look : Value → List Step → Query → Answer
+look v p q = answered (judge-path v p (no-answer q (value-at v p))) (found q (value-at v p))
