@@ -1,1 +1,7 @@
 -- Lemmas of this crate.
+pub mod Judged
+pub mod Nesting
+pub mod Rooms
+pub mod Tables
+pub mod Runs
+pub mod Drafts

@@ -1,0 +1,5 @@
+use Rattle.law.proofs.Tables.{tables}
+use Rattle.law.proofs.refusals_change_nothing.Needs as need
+
+pub returns : need.returns
+returns c = tables
