@@ -5,3 +5,5 @@ pub mod Rooms
 pub mod Tables
 pub mod Runs
 pub mod Drafts
+pub mod Spots
+pub mod Inits
