@@ -46,13 +46,13 @@ impl Pages {
         g < self.used
     }
 
-    // Grants the next page, zeroed in place.
-    fn add(&mut self)
-        requires { ⌜ now self .used < 8 ⌝ }
-        ensures segments { λ _. ⌜ take (now (self .exit) .used) (now (self .exit) .pages) ≡ with-zeros (take (now (self .entry) .used) (now (self .entry) .pages)) 256 ⌝ }
+    // Zeroes the next page in place.
+    fn wipe(&mut self)
+        requires left { ⌜ now self .used < 8 ⌝ }
+        ensures page { λ _. ⌜ take (now (self .exit) .used + 1) (now (self .exit) .pages) ≡ with-zeros (take (now (self .entry) .used) (now (self .entry) .pages)) 256 ⌝ }
+        ensures used { λ _. ⌜ now (self .exit) .used ≡ now (self .entry) .used ⌝ }
     {
         self.pages[self.used] = [0; 256];
-        self.used += 1;
     }
 }
 
@@ -118,7 +118,8 @@ pub impl Source for Pages as PagesSource {
                 },
             });
         };
-        self.add();
+        self.wipe();
+        self.used += 1;
         Ok(c)
     }
 

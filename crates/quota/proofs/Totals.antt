@@ -1,20 +1,16 @@
 -- The words of the first segments, and that a write leaves them as many.
-use Prim.Native.Nat.{ℕ, zero, suc, _+_, _-_, _≤_, _<_, _^_, min}
-use mathlib.Core.Path.{_≡_, refl, sym, ap, ap₂, _∙_}
+use Prim.Native.Nat.{ℕ, zero, suc, _+_, _-_, _≤_, _^_, min}
+use mathlib.Core.Path.{_≡_, refl, ap, _∙_}
 use mathlib.Core.List.{List, [], _∷_}
 use native.Mathlib.Omega.{arith}
 use native.Mathlib.Numerals.{add-one}
 use lib.ListN.{length, getD, set, take, length-set}
-use Rattle.std.proofs.shelf.Lists.{take-all}
-use Rattle.std.specs.declared.option.Option.{Option}
 use Rattle.std.specs.declared.result.Result.{Result}
 use Rattle.std.specs.declared.result.Result.the-variants.{Ok, Err}
 use Rattle.segments.specs.declared.refusal.Outside.{Outside}
 use Rattle.segments.specs.Calls.{Written}
 use Rattle.segments.specs.Memory.{segment, counted, put}
-use Rattle.quota.specs.Capped.{total, granted, capped, quota-offers}
-use Rattle.quota.specs.Faults.{quota-fault}
-use Rattle.quota.specs.declared.QuotaFault.{QuotaFault}
+use Rattle.quota.specs.Capped.{total, granted}
 
 total-take-set : (m : List (List ℕ)) (n g : ℕ) (s : List ℕ) → length s ≡ length (getD m g []) → total (take n (set m g s)) ≡ total (take n m)
 total-take-set [] n g s e = refl
@@ -29,17 +25,9 @@ granted-put m g w v =
     ap (λ n. total (take (min n (2 ^ 64 - 1)) (set m g s))) (length-set m g s) ∙ total-take-set m (counted m) g s (length-set (segment m g) w v)
 
 -- a write changes no word's number
-written-granted : {X : Type 0} (r : Result X Outside) (m n : List (List ℕ)) (g w v : ℕ) → Written r m n g w v → granted n ≡ granted m
+pub written-granted : {X : Type 0} (r : Result X Outside) (m n : List (List ℕ)) (g w v : ℕ) → Written r m n g w v → granted n ≡ granted m
 written-granted (Ok x) m n g w v h = ap granted (h .memory) ∙ granted-put m g w v
 written-granted (Err y) m n g w v h = ap granted (h .memory)
-
--- so what is left of the offers stays
-pub written-offers : {X : Type 0} (r : Result X Outside) (m n : List (List ℕ)) (g w v limit : ℕ) (o p : ℕ → Option ℕ) → Written r m n g w v → p ≡ o → quota-offers n limit p ≡ quota-offers m limit o
-written-offers r m n g w v limit o p h e = ap₂ {C = ℕ → Option ℕ} (λ t f k. capped t limit (f k)) (written-granted r m n g w v h) e
-
--- and so do the faults
-pub same-faults : {F : Type 0} (f f′ : ℕ → F) (o o′ : ℕ → Option ℕ) → f′ ≡ f → o′ ≡ o → _≡_ {A = ℕ → QuotaFault F} (λ k. quota-fault (f′ k) (o′ k)) (λ k. quota-fault (f k) (o k))
-same-faults {F} f f′ o o′ e d = ap₂ {C = ℕ → QuotaFault F} (λ f o k. quota-fault (f k) (o k)) e d
 
 -- the words of one segment more
 pub total-take-more : (m : List (List ℕ)) (g : ℕ) → total (take (g + 1) m) ≡ total (take g m) + length (segment m g)

@@ -1,9 +1,12 @@
 -- The words that are granted, and what a quota layer leaves of an offer.
-use Prim.Native.Nat.{ℕ, _+_}
+use Prim.Native.Nat.{ℕ, _+_, _<_, _^_}
+use mathlib.Core.Path.{_≡_, ap}
 use mathlib.Core.Bool.{cond}
 use mathlib.Core.List.{List, [], _∷_}
+use native.Mathlib.Omega.{arith}
 use lib.Dec.{leb}
 use lib.ListN.{length, take}
+use Rattle.std.proofs.shelf.Lists.{take-all}
 use Rattle.std.specs.declared.option.Option.{Option}
 use Rattle.std.specs.declared.option.Option.the-variants.{Some, None}
 use Rattle.segments.specs.Memory.{counted}
@@ -13,9 +16,12 @@ abbrev pub total : List (List ℕ) → ℕ
 total [] = 0
 total (s ∷ m) = length s + total m
 
--- how many words are granted: those of every segment that the count shows, which are all of them below 2^64 segments
+-- how many words are granted: those of every segment that the count shows, which is every segment while there are fewer than 2^64
 abbrev pub granted : List (List ℕ) → ℕ
 granted m = total (take (counted m) m)
+
+pub granted-all : (m : List (List ℕ)) → length m < 2 ^ 64 → granted m ≡ total m
+granted-all m h = ap total (take-all (counted m) m (omega arith))
 
 -- what a limit leaves of an offer, with t words granted: the offer if t and the offered capacity stay within it, and otherwise nothing
 abbrev pub capped : (t limit : ℕ) → Option ℕ → Option ℕ

@@ -3,6 +3,7 @@ ghost use Prim.Native.Nat.{_+_};
 ghost use mathlib.Core.Path.{_≡_};
 ghost use mathlib.Core.List.{[]};
 ghost use lib.Dec.{leb};
+ghost use Rattle.segments.specs.Calls.{Written};
 ghost use Rattle.quota.specs.Bounds.{quota-bounds};
 ghost use Rattle.quota.specs.Capped.{granted, over, quota-offers};
 ghost use Rattle.quota.specs.Faults.{quota-fault};
@@ -64,6 +65,18 @@ impl<S: Source> Quota<S> {
         true
     }
 
+    // Puts `v` into word `w` of segment `g` below, which leaves as many words granted.
+    fn put(&mut self, g: usize, w: usize, v: u64) -> Result<(), Outside>
+        ensures outcome { λ r. ⌜ Written r (S·Reading .segments (now (self .entry) .below)) (S·Reading .segments (now (self .exit) .below)) g w v ⌝ }
+        ensures granted { λ _. ⌜ granted (S·Reading .segments (now (self .exit) .below)) ≡ granted (S·Reading .segments (now (self .entry) .below)) ⌝ }
+        ensures offers { λ _. ⌜ S·Source .offers (now (self .exit) .below) ≡ S·Source .offers (now (self .entry) .below) ⌝ }
+        ensures first { λ _. ⌜ S·Source .first (now (self .exit) .below) ≡ S·Source .first (now (self .entry) .below) ⌝ }
+        ensures fault { λ _. ⌜ S·Source .fault (now (self .exit) .below) ≡ S·Source .fault (now (self .entry) .below) ⌝ }
+        ensures limit { λ _. ⌜ now (self .exit) .limit ≡ now (self .entry) .limit ⌝ }
+    {
+        self.below.write(g, w, v)
+    }
+
     // The capacity that is offered below for `m` words, if it would pass the limit.
     fn passing(&self, m: u32) -> Option<u32>
         ensures answer { λ r. ⌜ r ≡ over (granted (S·Reading .segments (now (self .entry) .below))) (now (self .entry) .limit) (S·Source .offers (now (self .entry) .below) m) ⌝ }
@@ -106,7 +119,7 @@ pub impl<S: Source> Source for Quota<S> as QuotaSource {
     }
 
     fn write(&mut self, g: usize, w: usize, v: u64) -> Result<(), Outside> {
-        self.below.write(g, w, v)
+        self.put(g, w, v)
     }
 
     fn grant(&mut self, m: u32) -> Result<u32, Refusal<QuotaFault<S::Fault>>> {

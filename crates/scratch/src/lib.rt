@@ -78,7 +78,7 @@ impl<S: Source> Scratch<S> {
 
     // Grants the own words, all zero.
     fn open(&mut self)
-        requires { ⌜ length (scratch-segments (now self .own .used) (now self .own .words) (S·Reading .segments (now self .below))) ≡ 0 ⌝ }
+        requires empty { ⌜ length (scratch-segments (now self .own .used) (now self .own .words) (S·Reading .segments (now self .below))) ≡ 0 ⌝ }
         ensures segments { λ _. ⌜ scratch-segments (now (self .exit) .own .used) (now (self .exit) .own .words) (S·Reading .segments (now (self .exit) .below)) ≡ with-zeros (scratch-segments (now (self .entry) .own .used) (now (self .entry) .own .words) (S·Reading .segments (now (self .entry) .below))) 256 ⌝ }
         ensures below { λ _. ⌜ now (self .exit) .below ≡ now (self .entry) .below ⌝ }
     {

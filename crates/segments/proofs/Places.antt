@@ -8,6 +8,7 @@ use lib.ListN.{length}
 use Rattle.std.proofs.shelf.Lists.{getD-past}
 use Rattle.std.proofs.shelf.Tests.{cond-true, cond-false, lt-ltb, le-ltb, cases-lt}
 use Rattle.std.specs.Options.{valueOr}
+use Rattle.std.specs.declared.option.Option.{Option}
 use Rattle.std.specs.declared.option.Option.the-variants.{Some, None}
 use Rattle.segments.specs.Memory.{segment, word, length-at, word-at}
 
@@ -46,3 +47,10 @@ word-at-or m g w =
     (λ h. ap (λ o. valueOr o 0) (sym (word-at-there m g w (word m g w) h refl)))
     (λ h. ap (λ o. valueOr o 0) (sym (word-at-missing m g w h)) ∙ sym (getD-past (segment m g) w 0 h))
     (cases-lt w (length (segment m g)))
+
+-- what `length(g).unwrap_or(0)` and `read(g, w).unwrap_or(0)` answer
+pub length-answered : (m : List (List ℕ)) (g n : ℕ) (o : Option ℕ) → o ≡ length-at m g → n ≡ valueOr o 0 → n ≡ length (segment m g)
+length-answered m g n o e h = h ∙ ap (λ x. valueOr x 0) e ∙ length-at-or m g
+
+pub word-answered : (m : List (List ℕ)) (g w v : ℕ) (o : Option ℕ) → o ≡ word-at m g w → v ≡ valueOr o 0 → v ≡ word m g w
+word-answered m g w v o e h = h ∙ ap (λ x. valueOr x 0) e ∙ word-at-or m g w

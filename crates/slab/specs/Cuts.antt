@@ -4,8 +4,7 @@ use mathlib.Core.Path.{_≡_}
 use mathlib.Core.Bool.{cond, _&&_}
 use mathlib.Core.List.{List, map}
 use lib.Dec.{leb, ltb}
-use lib.ListN.{length, getD, set, take, drop, replicate}
-use lib.Seq.{paste}
+use lib.ListN.{length, getD, set, take, drop}
 use Rattle.std.specs.Iters.{counting}
 use Rattle.std.specs.declared.option.Option.{Option}
 use Rattle.std.specs.declared.option.Option.the-variants.{Some, None}
@@ -18,10 +17,6 @@ part words marks g = take (getD marks (g + 1) 0 - getD marks g 0) (drop (getD ma
 -- the first n segments
 abbrev pub cuts : List ℕ → List ℕ → ℕ → List (List ℕ)
 cuts words marks n = map (part words marks) (counting 0 n)
-
--- n zeros from a place on
-abbrev pub zeroed : List ℕ → ℕ → ℕ → List ℕ
-zeroed words from n = paste words from (replicate n 0) n
 
 -- at most 2^29 - 1 words are used, of which `used` are cut
 abbrev pub slab-left : ℕ → ℕ → ℕ

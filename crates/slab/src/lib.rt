@@ -2,11 +2,11 @@
 ghost use Prim.Native.Nat.{ℕ, _+_, _≤_, _<_};
 ghost use mathlib.Core.Path.{_≡_};
 ghost use mathlib.Core.List.{[]};
-ghost use lib.ListN.{length, getD};
+ghost use lib.ListN.{length, getD, take, drop, replicate};
 ghost use denote.Ref.{now as value};
 ghost use Rattle.segments.specs.Memory.{with-zeros};
 ghost use Rattle.slab.specs.Bounds.{slab-bounds};
-ghost use Rattle.slab.specs.Cuts.{cuts, zeroed, slab-left, slab-offers, Spanned, Found};
+ghost use Rattle.slab.specs.Cuts.{cuts, slab-left, slab-offers, Spanned, Found};
 ghost use Rattle.slab.specs.Faults.{slab-fault};
 use segments::reading::Reading;
 use segments::refusal::Outside;
@@ -90,30 +90,32 @@ impl<'a> Slab<'a> {
         if w < n { Some(from + w) } else { None }
     }
 
-    // Zeroes `n` of the lent words from `from` on.
-    fn zero(&mut self, from: usize, n: usize)
-        requires { ⌜ from + n ≤ length (now (now self .words)) ⌝ }
-        ensures words { λ _. ⌜ now (now (self .exit) .words) ≡ zeroed (now (now (self .entry) .words)) from n ⌝ }
+    // Zeroes the next `c` of the words that are left.
+    fn clear(&mut self, c: u32)
+        requires fits { ⌜ getD (now self .marks) (now self .cut) 0 + c ≤ length (now (now self .words)) ⌝ }
+        ensures zeros { λ _. ⌜ take c (drop (getD (now (self .exit) .marks) (now (self .exit) .cut) 0) (now (now (self .exit) .words))) ≡ replicate c 0 ⌝ }
+        ensures segments { λ _. ⌜ cuts (now (now (self .exit) .words)) (now (self .exit) .marks) (now (self .exit) .cut) ≡ cuts (now (now (self .entry) .words)) (now (self .entry) .marks) (now (self .entry) .cut) ⌝ }
+        ensures size { λ _. ⌜ length (now (now (self .exit) .words)) ≡ length (now (now (self .entry) .words)) ⌝ }
         ensures step { λ _. ⌜ now (self .exit) .step ≡ now (self .entry) .step ⌝ }
         ensures marks { λ _. ⌜ now (self .exit) .marks ≡ now (self .entry) .marks ⌝ }
         ensures cut { λ _. ⌜ now (self .exit) .cut ≡ now (self .entry) .cut ⌝ }
     {
-        for i in 0..n {
+        let from = self.marks[self.cut];
+        for i in 0..c as usize {
             self.words[from + i] = 0;
         }
     }
 
-    // Cuts a zero segment of the next `c` words.
+    // Cuts a segment of the next `c` words, which are zero.
     fn add(&mut self, c: u32)
         requires few { ⌜ now self .cut < 64 ⌝ }
         requires fits { ⌜ getD (now self .marks) (now self .cut) 0 + c ≤ length (now (now self .words)) ⌝ }
+        requires zeros { ⌜ take c (drop (getD (now self .marks) (now self .cut) 0) (now (now self .words))) ≡ replicate c 0 ⌝ }
         ensures segments { λ _. ⌜ cuts (now (now (self .exit) .words)) (now (self .exit) .marks) (now (self .exit) .cut) ≡ with-zeros (cuts (now (now (self .entry) .words)) (now (self .entry) .marks) (now (self .entry) .cut)) c ⌝ }
         ensures size { λ _. ⌜ length (now (now (self .exit) .words)) ≡ length (now (now (self .entry) .words)) ⌝ }
         ensures step { λ _. ⌜ now (self .exit) .step ≡ now (self .entry) .step ⌝ }
     {
-        let from = self.marks[self.cut];
-        self.zero(from, c as usize);
-        self.marks[self.cut + 1] = from + c as usize;
+        self.marks[self.cut + 1] = self.marks[self.cut] + c as usize;
         self.cut += 1;
     }
 }
@@ -176,6 +178,7 @@ pub impl Source for Slab<'_> as SlabSource {
             };
             return Err(Refusal { minimum: m, fault });
         };
+        self.clear(c);
         self.add(c);
         Ok(c)
     }

@@ -7,4 +7,4 @@ pub returns : need.returns
 returns g c =
     let s = c .args .self .now in
     let o = c .new-self in
-    record { segments = opened (s .own .used) (s .own .words) (g .S·Reading .segments (s .below)) (c .pre) (o .result .used) (o .result .words) (o .ensures .used) (o .ensures .words); below = refl }
+    record { segments = opened (s .own .used) (s .own .words) (g .S·Reading .segments (s .below)) (c .pre .empty) (o .result .used) (o .result .words) (o .ensures .used) (o .ensures .words); below = refl }
