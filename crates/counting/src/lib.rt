@@ -22,6 +22,13 @@ pub struct Counting<S: Source> {
     hits: [u64; 256],
 }
 
+// One more.
+fn bump(n: &mut u64)
+    ensures more { λ _. ⌜ now (n .exit) ≡ more (now (n .entry)) ⌝ }
+{
+    *n = n.saturating_add(1);
+}
+
 impl<S: Source> Counting<S> {
     // A counting layer over `below`, whose segments are all taken back first.
     pub fn new(mut below: S) -> Counting<S>
@@ -82,9 +89,9 @@ impl<S: Source> Counting<S> {
         ensures grants { λ _. ⌜ now (self .exit) .grants ≡ now (self .entry) .grants ⌝ }
         ensures below { λ _. ⌜ now (self .exit) .below ≡ now (self .entry) .below ⌝ }
     {
-        self.writes = self.writes.saturating_add(1);
+        bump(&mut self.writes);
         if g == 0 && w < 256 {
-            self.hits[w] = self.hits[w].saturating_add(1);
+            bump(&mut self.hits[w]);
         }
     }
 }
@@ -147,7 +154,7 @@ pub impl<S: Source> Source for Counting<S> as CountingSource {
     {
         match self.below.grant(m) {
             Ok(c) => {
-                self.grants = self.grants.saturating_add(1);
+                bump(&mut self.grants);
                 Ok(c)
             }
             Err(e) => Err(e),
