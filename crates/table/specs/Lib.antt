@@ -2,3 +2,5 @@
 pub mod Segments
 pub mod Placing
 pub mod Laws
+pub mod Entries
+pub mod Meaning
