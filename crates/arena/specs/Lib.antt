@@ -1,0 +1,3 @@
+-- What an arena means, and what allocations answer and leave.
+pub mod Faults
+pub mod Space
