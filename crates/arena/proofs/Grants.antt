@@ -3,6 +3,7 @@ use Prim.Native.Nat.{ℕ, zero, suc, _+_, _-_, _<_, _≤_, _^_}
 use mathlib.Core.Path.{_≡_, refl, sym, _∙_, ap}
 use mathlib.Core.Bool.{Bool, true, false, cond, _&&_}
 use mathlib.Core.List.{List, [], _∷_, _++_}
+use mathlib.Core.Logic.{_⊎_, inl, inr}
 use native.Mathlib.Omega.{arith}
 use lib.Dec.{ltb, leb}
 use lib.ListN.{length}
@@ -10,9 +11,11 @@ use Rattle.std.proofs.shelf.Lists.{length-push}
 use Rattle.std.proofs.shelf.Tests.{and-from, lt-ltb, le-leb, cond-true}
 use Rattle.std.specs.declared.option.Option.{Option}
 use Rattle.std.specs.declared.option.Option.the-variants.{Some, None}
-use Rattle.table.specs.Segments.{fresh, more, Table, left-in, take, first-fit}
-use Rattle.table.specs.Meaning.{has-room, with-words, first-words, with-first-words, with-segment}
-use Rattle.table.proofs.Entries.{add-accepted}
+use Rattle.table.specs.Segments.{fresh, more, Table, allocated-in, left-in, take, first-fit}
+use Rattle.table.specs.Meaning.{table-of, has-room, with-words, first-words, with-first-words, with-segment}
+use Rattle.table.specs.declared.SegmentTable.{SegmentTable}
+use Rattle.table.proofs.Entries.{add-accepted, counts-small}
+use Rattle.arena.specs.Space.{Space, Found, Granted}
 
 none-same : (b : Bool) (p : ℕ × ℕ) (t u : Table) → cond b (Some p) None ≡ None → cond b u t ≡ t
 none-same true p t u e = let z : _≡_ {A = ℕ} 0 1 = cc in absurd (omega arith)
@@ -50,3 +53,19 @@ granted-table t t₁ t₂ t₃ g n c same count few fits small two three =
     three ∙
     (ap (λ (u : Table). with-words u g n) a ∙
     (ap (λ (i : ℕ). with-words (t ++ (fresh c ∷ [])) i n) (count ∙ k) ∙ last-words t c n fits))
+
+found-word : (b : Bool) (k : ℕ × ℕ) (p : ℕ × ℕ) → cond b (Some k) None ≡ Some p → p ≡ k
+found-word true k p e = cc
+found-word false k p e = let z : _≡_ {A = ℕ} 0 1 = cc in absurd (omega arith)
+
+-- the words that an allocation anywhere answers lie below 2 ^ 29
+pub anywhere-small : (t : SegmentTable) (n : ℕ) (s s′ : Space) (p : ℕ × ℕ) → s .table ≡ table-of t → Found n s p s′ ⊎ Granted n s p s′ → p .1 < 2 ^ 29
+anywhere-small t n s s′ p e (inl f) =
+    let w : p ≡ (first-fit (s .table) n, allocated-in (s .table) (first-fit (s .table) n)) =
+    found-word (ltb (first-fit (s .table) n) (length (s .table))) _ p (f .pair-is) in
+    let i : p .1 ≡ allocated-in (table-of t) (first-fit (s .table) n) =
+    ap (λ (q : ℕ × ℕ). q .1) w ∙ ap (λ (u : Table). allocated-in u (first-fit (s .table) n)) e in
+    let b : t .count ≤ length (t .entries) = let x = t .few in let y = t .whole in omega arith in
+    let k = counts-small (t .count) (t .entries) b (t .bounded) (first-fit (s .table) n) in
+    omega arith
+anywhere-small t n s s′ p e (inr f) = let i : p .1 ≡ 0 = ap (λ (q : ℕ × ℕ). q .1) (f .pair-is) in omega arith

@@ -1,7 +1,8 @@
 -- What an arena means, and what an allocation answers and leaves.
-use Prim.Native.Nat.{ℕ, _+_, _<_, _≤_}
+use Prim.Native.Nat.{ℕ, _+_, _<_, _≤_, min}
 use mathlib.Core.Path.{_≡_}
 use mathlib.Core.Logic.{_⊎_}
+use mathlib.Core.Bool.{true, false}
 use mathlib.Core.List.{List, [], _∷_, _++_}
 use lib.ListN.{length}
 use Rattle.std.specs.declared.option.Option.{Option}
@@ -9,8 +10,8 @@ use Rattle.std.specs.declared.option.Option.the-variants.{Some, None}
 use Rattle.std.specs.declared.result.Result.{Result}
 use Rattle.std.specs.declared.result.Result.the-variants.{Ok, Err}
 use Rattle.segments.specs.Memory.{with-zeros}
-use Rattle.table.specs.Segments.{fresh, more, Table}
-use Rattle.table.specs.Meaning.{table-of, first-words, with-first-words}
+use Rattle.table.specs.Segments.{fresh, more, Table, allocated-in, take}
+use Rattle.table.specs.Meaning.{table-of, has-room, first-words, with-first-words}
 use Rattle.arena.specs.declared.BuilderArena.{BuilderArena}
 use Rattle.arena.specs.declared.NoSpace.{NoSpace}
 use Rattle.arena.specs.declared.SpaceFault.the-variants as why
@@ -62,3 +63,26 @@ pub record Denied {F : Type 0} (n : ℕ) (fault : ℕ → F) (s : Space) (y : No
 abbrev pub Anywhere : {F : Type 0} → (n : ℕ) → (ℕ → F) → Space → Result (ℕ × ℕ) (NoSpace F) → Space → Type 0
 Anywhere n fault s (Ok p) s′ = Found n s p s′ ⊎ Granted n s p s′
 Anywhere n fault s (Err y) s′ = Denied n fault s y s′
+
+-- ## For a slot
+
+-- the next n words of segment g, which has as many left
+pub record Near (g n : ℕ) (s : Space) (p : ℕ × ℕ) (s′ : Space) : Type 0 where
+  pub fits : has-room (s .table) g n ≡ true
+  pub pair-is : p ≡ (g, allocated-in (s .table) g)
+  pub space-is : s′ ≡ with-table s (take (s .table) g n)
+
+-- the words that an object of n words takes behind a landing pad, as far as 32 bits count
+abbrev pub with-pad : ℕ → ℕ
+with-pad n = min (n + 1) 4294967295
+
+-- An object of n words for a slot in segment g: there, or anywhere with a landing pad in front. The pair is the object's.
+abbrev pub Placed : {F : Type 0} → (g n : ℕ) → (ℕ → F) → Space → Result (ℕ × ℕ) (NoSpace F) → Space → Type 0
+Placed g n fault s (Ok p) s′ =
+    Near g n s p s′ ⊎ ((has-room (s .table) g n ≡ false) × ((w : ℕ) × (p .1 ≡ w + 1) × (Found (with-pad n) s (p .0, w) s′ ⊎ Granted (with-pad n) s (p .0, w) s′)))
+Placed g n fault s (Err y) s′ = (has-room (s .table) g n ≡ false) × Denied (with-pad n) fault s y s′
+
+-- a landing pad for a child in segment g: a word there, or two words anywhere
+abbrev pub Padded : {F : Type 0} → (g : ℕ) → (ℕ → F) → Space → Result (ℕ × ℕ) (NoSpace F) → Space → Type 0
+Padded g fault s (Ok p) s′ = Near g 1 s p s′ ⊎ ((has-room (s .table) g 1 ≡ false) × (Found 2 s p s′ ⊎ Granted 2 s p s′))
+Padded g fault s (Err y) s′ = (has-room (s .table) g 1 ≡ false) × Denied 2 fault s y s′

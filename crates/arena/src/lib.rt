@@ -5,6 +5,7 @@ use segments::refusal::Refusal;
 use table::SegmentTable;
 
 pub mod allocation;
+pub mod placing;
 
 // A source with the table of its segments.
 pub struct BuilderArena<S> {

@@ -179,3 +179,12 @@ add-full t c h = and-left (ltb (length t) 64) (ltb c 536870912) (le-ltb (length 
 
 pub add-large : (t : Table) (c : ℕ) → 2 ^ 29 ≤ c → can-add t c ≡ false
 add-large t c h = and-right (ltb (length t) 64) (ltb c 536870912) (le-ltb c 536870912 h)
+
+-- ## The table's own bounds
+
+pub counts-small : (n : ℕ) (es : List SegmentEntry) → n ≤ length es → All-bounded n es → (g : ℕ) → allocated-in (segments-of n es) g < 2 ^ 29
+counts-small n es h b g =
+    ⊎-elim
+    (λ (l : g < n). let e = allocated-is n g es h l in let k = b g l in omega arith)
+    (λ (l : n ≤ g). let c = count-is n es h in let e = allocated-past (segments-of n es) g (omega arith) in omega arith)
+    (cases-lt g n)
