@@ -7,3 +7,6 @@ pub mod Runs
 pub mod Drafts
 pub mod Spots
 pub mod Inits
+pub mod Letters
+pub mod Makings
+pub mod Texts
