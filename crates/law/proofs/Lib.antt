@@ -10,3 +10,5 @@ pub mod Inits
 pub mod Letters
 pub mod Makings
 pub mod Texts
+pub mod Children
+pub mod Moving
