@@ -12,3 +12,5 @@ pub mod Makings
 pub mod Texts
 pub mod Children
 pub mod Moving
+pub mod Copies
+pub mod Rebuilds
