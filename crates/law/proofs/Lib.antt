@@ -14,3 +14,5 @@ pub mod Children
 pub mod Moving
 pub mod Copies
 pub mod Rebuilds
+pub mod Turns
+pub mod Fitting

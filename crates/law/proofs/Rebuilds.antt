@@ -112,7 +112,7 @@ module _ (H : Memory) (a : ℕ → ℕ) (v : Value) (p : List Step) (c : Site H 
   in-object : (n : ℕ) → n < size sh′ → 1 ≤ taken l sh′ (l .seg) (l .pos + n)
   in-object n h = taken-in l sh′ (l .seg) (l .pos + n) refl (omega arith) (omega (arith, o .span-is))
 
-  pub taken-inside : (x y : ℕ) → 1 ≤ taken l sh′ x y → y < a₁ x
+  taken-inside : (x y : ℕ) → 1 ≤ taken l sh′ x y → y < a₁ x
   taken-inside x y h =
       ⊎-elim
       (λ (d : 0 < within (l .pad-seg) (l .pad-pos) (l .pad-len) x y).
@@ -159,6 +159,9 @@ module _ (H : Memory) (a : ℕ → ℕ) (v : Value) (p : List Step) (c : Site H 
       else-kept (l .seg) (l .pos + slot sh′ i j) (λ x k hx hk _ f. rowed-slot sh′ (grows .rowed) x k i j hx hk hi hj (omega arith)) ∙
       opened-body H g w s t sh′ a a₁ o hw (slot sh′ i j) (slot-head sh′ i j) m ∙
       was-zero (l .seg) (l .pos + slot sh′ i j) (in-object (slot sh′ i j) m)
+
+  pub slots-inside : (i j : ℕ) → i < rows sh′ → j < pointers sh′ → o .l .pos + slot sh′ i j < a₁ (o .l .seg)
+  slots-inside i j hi hj = taken-inside (l .seg) (l .pos + slot sh′ i j) (in-object (slot sh′ i j) (slot-in sh′ i j hi hj))
 
   pad-kept : 1 ≤ l .pad-len → Hc (l .pad-seg) (l .pad-pos) ≡ l .said
   pad-kept h =
