@@ -16,3 +16,4 @@ pub mod Copies
 pub mod Rebuilds
 pub mod Turns
 pub mod Fitting
+pub mod Enough

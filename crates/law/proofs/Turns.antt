@@ -62,7 +62,7 @@ Paired (new sh) p l = p ≡ (l .seg, l .pos)
 Paired (spell bytes) p l = Unit {0}
 Paired (rebuild sh) p l = p ≡ (l .seg, l .pos)
 
-then-got : {A B : Type 0} (o : Outcome A) (f : Room → A → Outcome B) (r : Room) (b : B) → then o f ≡ got r b →
+pub then-got : {A B : Type 0} (o : Outcome A) (f : Room → A → Outcome B) (r : Room) (b : B) → then o f ≡ got r b →
     (r₁ : Room) × (a : A) × (o ≡ got r₁ a) × (f r₁ a ≡ got r b)
 then-got (got r₁ a) f r b e = (r₁, a, refl, e)
 then-got (no-space r₁ m) f r b e = let z : _≡_ {A = ℕ} 0 1 = cc in absurd (omega arith)
