@@ -70,10 +70,10 @@ spots r g w (composite n dw pw) d hw = by-place r g w (composite n dw pw) refl d
 
 -- ## Zeroed words
 
-zero-there : (H : Memory) (n : ℕ → ℕ → ℕ) (x y : ℕ) → 0 < n x y → zeroed H n x y ≡ 0
+pub zero-there : (H : Memory) (n : ℕ → ℕ → ℕ) (x y : ℕ) → 0 < n x y → zeroed H n x y ≡ 0
 zero-there H n x y h = rw (lt-ltb 0 (n x y) h)
 
-same-there : (H : Memory) (n : ℕ → ℕ → ℕ) (x y : ℕ) → n x y ≡ 0 → zeroed H n x y ≡ H x y
+pub same-there : (H : Memory) (n : ℕ → ℕ → ℕ) (x y : ℕ) → n x y ≡ 0 → zeroed H n x y ≡ H x y
 same-there H n x y h = rw (le-ltb 0 (n x y) (omega arith))
 
 pub wiped-cleared : (H : Memory) (g w : ℕ) (u : Value) → Cleared H (wiped H g w u) g w u
@@ -95,7 +95,7 @@ wiped-cleared H g w u =
 pub taken-in : (l : Landing) (sh : Shape) (x y : ℕ) → x ≡ l .seg → l .pos ≤ y → y < l .pos + span (l .said) sh → 1 ≤ taken l sh x y
 taken-in l sh x y e h k = omega (arith, within-in (l .seg) (l .pos) (span (l .said) sh) x y e h k)
 
-head-size : (sh : Shape) → head sh ≡ 1 → 1 ≤ size sh
+pub head-size : (sh : Shape) → head sh ≡ 1 → 1 ≤ size sh
 head-size (structure dw pw) h = absurd (omega arith)
 head-size (plain c n) h = absurd (omega arith)
 head-size (composite n dw pw) h = omega arith

@@ -6,3 +6,4 @@ pub mod Exact
 pub mod Law
 pub mod Runs
 pub mod Drafts
+pub mod Enough

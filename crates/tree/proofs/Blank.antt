@@ -82,7 +82,7 @@ beside-new H H′ a a′ g w t x sh c = record {
 
 -- ## Behind a pad, which stands in word q of segment s, right before the object
 
--- an extent cut in two-bytes
+-- an extent cut in two
 pub within-cut : (g s m n x y : ℕ) → within g s (m + n) x y ≡ within g s m x y + within g (s + m) n x y
 within-cut g s m n x y = omega (arith, within-view g s (m + n) x y, within-view g s m x y, within-view g (s + m) n x y)
 

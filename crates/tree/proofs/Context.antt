@@ -31,7 +31,7 @@ pub totals-changed : (r p : ℕ) (f : ℕ → ℕ → ℕ) (i j u : ℕ) → i <
 totals-changed r p f i j u hi hj =
     omega (arith, totals-change r p f (change f i j u) i j hi hj (λ a b _ _ n. change-else f i j u a b n), change-here f i j u)
 
--- two-bytes terms of a sum
+-- two terms of a sum
 pub totals-two : (r p : ℕ) (f : ℕ → ℕ → ℕ) (i j a b : ℕ) → i < r → j < p → a < r → b < p → (a ≡ i → b ≡ j → ⊥) →
     f i j + f a b ≤ totals r p f
 totals-two r p f i j a b hi hj ha hb n =

@@ -43,7 +43,7 @@ describes-shape x t (composite n dw pw) d =
 
 -- ## One value
 
--- two-bytes objects of one shape
+-- two objects of one shape
 objects-same : (sh : Shape) (dat dat′ : ℕ → ℕ → ℕ) (kid kid′ : ℕ → ℕ → Value) →
     ((i k : ℕ) → i < rows sh → k < places sh → dat i k ≡ dat′ i k) →
     ((i k : ℕ) → (rows sh ≤ i) ⊎ (places sh ≤ k) → dat i k ≡ dat′ i k) →

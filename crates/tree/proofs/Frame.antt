@@ -10,7 +10,7 @@ use Rattle.tree.specs.Shows.{Memory, Way, direct, single, double, way, Landing
 use Rattle.tree.proofs.Count.{within-le, within-in, within-from, within-cases, within-none, totals-ext, totals-term, totals-pos}
 use Rattle.tree.proofs.Shapes.{slot-in, slot-apart, number-local}
 
--- two-bytes memories agree on the pads of a landing
+-- two memories agree on the pads of a landing
 abbrev pub Pads-same : Memory → Memory → Landing → Type 0
 Pads-same H H′ l = (x y : ℕ) → 1 ≤ within (l .pad-seg) (l .pad-pos) (l .pad-len) x y → H′ x y ≡ H x y
 

@@ -24,7 +24,7 @@ not-before-row i j a b h = rw (le-ltb a i (omega arith), ne-eqb a i (omega arith
 pub not-before-place : (i j a b : ℕ) → a ≡ i → j ≤ b → before i j a b ≡ false
 not-before-place i j a b e h = rw (le-ltb a i (omega arith), eq-eqb a i e, le-ltb b j h)
 
--- the two-bytes cases
+-- the two cases
 pub before-cases : (i j a b : ℕ) →
     ((before i j a b ≡ true) × ((a < i) ⊎ ((a ≡ i) × (b < j)))) ⊎ ((before i j a b ≡ false) × ((i < a) ⊎ ((a ≡ i) × (j ≤ b))))
 before-cases i j a b =

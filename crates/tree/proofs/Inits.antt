@@ -100,7 +100,7 @@ module _ (H : Memory) (a : ℕ → ℕ) (v : Value) (p : List Step) (go : Goes v
             change-else H g (a g) t b y (λ e f. omega (arith, h, within-in g (a g) (span x sh) b y e (omega arith) (omega arith)));
       }))
 
-  -- the four-bytes kinds
+  -- the four kinds
   pub init-struct : (dw pw : ℕ) → dw < 65536 → 1 ≤ dw + pw →
       Sound (change H g w (struct-pointer w (a g) dw pw)) (grow a g (dw + pw)) (put v p (blank (structure dw pw)))
   init-struct dw pw hd one =

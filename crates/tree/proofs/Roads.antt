@@ -39,7 +39,7 @@ land-single H g w s q x t h e k r =
     let z = single-parts s q h in
     land-by H g w (single-far s q) single e (way-single (single-far s q) (z .0) (z .1)) ∙ rw (z .2, z .3, k, r)
 
--- over two-bytes pads
+-- over two pads
 pub land-double : (H : Memory) (g w s q x b t : ℕ) → q < 2 ^ 29 → t < 2 ^ 29 → H g w ≡ double-far s q → H s q ≡ single-far b t → H s (q + 1) ≡ x →
     land H g w ≡ record { said = x; seg = b; pos = t; pad-seg = s; pad-pos = q; pad-len = 2 }
 land-double H g w s q x b t h h′ e k r =

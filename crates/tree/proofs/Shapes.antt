@@ -25,7 +25,7 @@ slot-in (plain eight-bytes n) i j hi hj = absurd (omega arith)
 slot-in (plain pointer n) i j hi hj = omega arith
 slot-in (composite n dw pw) i j hi hj = omega (arith, row-fits i n (dw + pw) hi)
 
--- two-bytes rows' places are the same only if the rows and the places are
+-- two rows' places are the same only if the rows and the places are
 pub row-apart : (i k s j l : ℕ) → j < s → l < s → i * s + j ≡ k * s + l → i ≡ k
 row-apart i k s j l hj hl e = go (cases-lt i k) (cases-lt k i)
   where

@@ -219,7 +219,7 @@ transfer-pad H H′ a a′ g w G W q sh dat kid f near small qi e k =
     (omega (arith, qi))
     (λ b y. refl)
 
--- in another segment, its own being full: two-bytes pads in words q and q + 1 of segment s
+-- in another segment, its own being full: two pads in words q and q + 1 of segment s
 pub transfer-double : (H H′ : Memory) (a a′ : ℕ → ℕ) (g w G W s q : ℕ) (sh : Shape) (dat : ℕ → ℕ → ℕ) (kid : ℕ → ℕ → Value) →
     Steady H H′ a a′ g w G W s q 2 (object sh dat kid) → pointer-kind (H g w) ≢ 2 → ((x : ℕ) → a′ x < 2 ^ 29) → q + 1 < a′ s →
     H′ G W ≡ double-far s q → H′ s q ≡ single-far g (pointer-target w (H g w)) → H′ s (q + 1) ≡ unaimed (H g w) →

@@ -10,7 +10,7 @@ use Rattle.tree.specs.Shows.{span, Memory, land, within, reach, walk, rest, Sh
 use Rattle.tree.proofs.Context.{change-here, change-else, split, slot-counted, Once, step-land}
 use Rattle.tree.proofs.Replace.{Around, once-kid, around-kid}
 
--- two-bytes changes at one place
+-- two changes at one place
 pub change-twice : {A : Type 0} (f : ℕ → ℕ → A) (i j : ℕ) (u t : A) → change (change f i j u) i j t ≡ change f i j t
 change-twice {A} f i j u t = fun-ext (λ a. fun-ext (λ b. at a b (cases-eq a i) (cases-eq b j)))
   where

@@ -19,7 +19,7 @@ abbrev pub Every : (Extent → Type 0) → List Extent → Type 0
 Every P [] = Unit {0}
 Every P (e ∷ es) = P e × Every P es
 
--- no two-bytes extents have a word in common
+-- no two extents have a word in common
 abbrev pub Disjoint : List Extent → Type 0
 Disjoint [] = Unit {0}
 Disjoint (e ∷ es) = Every (λ f. (x y : ℕ) → Has e x y → Has f x y → ⊥) es × Disjoint es

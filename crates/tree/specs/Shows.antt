@@ -14,7 +14,7 @@ Memory = ℕ → ℕ → ℕ
 
 -- ## Where a slot leads
 
--- how: by itself, by a far pointer over one pad word, by a double far pointer over two-bytes
+-- how: by itself, by a far pointer over one pad word, by a double far pointer over two
 pub data Way : Type 0 where
   direct single double : Way
 

@@ -1,0 +1,59 @@
+-- What is enough for a call to be lawful. Code has to show only these.
+use mathlib.Core.Path.{_≡_}
+use mathlib.Core.Logic.{_⊎_}
+use mathlib.Core.List.{List, [], _∷_, _++_}
+use Prim.Native.Nat.{ℕ}
+use lib.ListN.{length}
+use Rattle.std.specs.declared.option.Option.the-variants.{None}
+use Rattle.tree.specs.Value.{Value, value-at}
+use Rattle.table.specs.Segments.{all-fresh}
+use Rattle.table.specs.Placing.{Room, room, got, no-space}
+use Rattle.law.specs.Calls.{Call, Typed, Answer, refused, nowhere, sizes, no-sizes, done, value}
+use Rattle.law.specs.Machine.{fine, wrong, judge, reply, effect}
+use Rattle.law.specs.Exact.{Written, call-outcome}
+use Rattle.law.specs.Law.{State, memory, Stands, Holds, Granted, zero-segments, Reply, Lawful}
+
+-- the pair of an answer: where the object was placed, and (0, 0) for a null place
+abbrev pub Pair-is : Answer → (pair placed : ℕ × ℕ) → Type 0
+Pair-is (refused n) y p = Unit {0}
+Pair-is (nowhere i) y p = Unit {0}
+Pair-is (sizes sh) y p = y ≡ p
+Pair-is no-sizes y p = y ≡ (0, 0)
+Pair-is done y p = Unit {0}
+Pair-is (value x) y p = Unit {0}
+
+-- room was found for an accepted call, which left the words of the definition and answered as the machine does
+pub record Accepts (s : State) (v : Value) (c : Call) (met : List ℕ) (y : Reply) (s′ : State) (r : Room) (written : Written) : Type 0 where
+  pub typed : Typed (c .edit)
+  pub before : Holds s v
+  pub judged-fine : judge v c ≡ fine
+  pub outcome : call-outcome (memory s) v (room (s .table) met) c ≡ got r written
+  pub all-used : r .coming ≡ []
+  pub granted : Granted (s .source) (r .asked) met (s′ .source)
+  pub table-is : s′ .table ≡ r .table
+  pub stands : Stands s′
+  pub words-are : memory s′ ≡ written .words
+  pub says-is : y .says ≡ reply (c .edit) (effect (c .edit) (value-at v (c .path)))
+  pub pair-is : Pair-is (y .says) (y .pair) (written .pair)
+
+-- a segment was needed and there was none; all words are as before, and segments granted on the way are empty
+pub record Crowds (s : State) (v : Value) (c : Call) (met : List ℕ) (y : Reply) (s′ : State) (r : Room) : Type 0 where
+  pub typed : Typed (c .edit)
+  pub before : Holds s v
+  pub judged-fine : judge v c ≡ fine
+  pub outcome : call-outcome (memory s) v (room (s .table) met) c ≡ no-space r (y .minimum)
+  pub all-used : r .coming ≡ []
+  pub granted : Granted (s .source) (r .asked) met (s′ .source)
+  pub no-more : (length (s′ .table) ≡ 64) ⊎ (s′ .source .offers (y .minimum) ≡ None)
+  pub segments-are : s′ .source .segments ≡ s .source .segments ++ zero-segments met
+  pub table-is : s′ .table ≡ s .table ++ all-fresh met
+  pub stands : Stands s′
+  pub says-is : y .says ≡ refused 11
+
+pub record Exact-words-keep-the-law : Type 0 where
+  pub rejects : (s : State) (v : Value) (c : Call) (y : Reply) → Typed (c .edit) → Holds s v → judge v c ≡ wrong (y .says) → Lawful s v c [] y s
+  pub crowds : (s : State) (v : Value) (c : Call) (met : List ℕ) (y : Reply) (s′ : State) (r : Room) →
+      Crowds s v c met y s′ r → Lawful s v c met y s′
+  -- whatever the edit is
+  pub accepts : (s : State) (v : Value) (c : Call) (met : List ℕ) (y : Reply) (s′ : State) (r : Room) (written : Written) →
+      Accepts s v c met y s′ r written → Lawful s v c met y s′
