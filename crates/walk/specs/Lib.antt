@@ -1,0 +1,2 @@
+-- What the answers of a walk mean.
+pub mod Landings
