@@ -30,7 +30,7 @@ pub trait PrimitiveElement: Sized {
     law forth: { (b : ℕ) → b < 2 ^ element-bits code → bits (value b) ≡ b };
 
     fn element_size() -> ElementSize
-        ensures { λ r. ⌜ code-of r ≡ code ⌝ };
+        ensures value { λ r. ⌜ code-of r ≡ code ⌝ };
 
     fn to_bits(self) -> u64
         ensures bits { λ r. ⌜ r ≡ bits self ⌝ }
@@ -38,7 +38,7 @@ pub trait PrimitiveElement: Sized {
 
     // The value of the lowest bits of b.
     fn from_bits(b: u64) -> Self
-        ensures { λ r. ⌜ r ≡ value (b % 2 ^ element-bits code) ⌝ };
+        ensures value { λ r. ⌜ r ≡ value (b % 2 ^ element-bits code) ⌝ };
 }
 
 pub impl PrimitiveElement for () as UnitElement {
@@ -196,7 +196,7 @@ pub impl PrimitiveElement for i32 as I32Element {
 
 // The word of a list that holds the element of this index, counted from the list's first word.
 pub fn element_word<E: PrimitiveElement>(index: usize) -> usize
-    ensures { λ r. ⌜ r ≡ element-word (E·PrimitiveElement .code) index ⌝ }
+    ensures value { λ r. ⌜ r ≡ element-word (E·PrimitiveElement .code) index ⌝ }
 {
     let bits = E::element_size().bits() as usize;
     if bits == 0 {
@@ -215,7 +215,7 @@ fn element_bit(element: ElementSize, index: usize) -> u32
 
 // The element of this index, from the word that holds it.
 pub fn get_element<E: PrimitiveElement>(word: u64, index: usize) -> E
-    ensures { λ r. ⌜ r ≡ E·PrimitiveElement .value (element-in word (E·PrimitiveElement .code) index) ⌝ }
+    ensures value { λ r. ⌜ r ≡ E·PrimitiveElement .value (element-in word (E·PrimitiveElement .code) index) ⌝ }
 {
     E::from_bits(word >> element_bit(E::element_size(), index))
 }
