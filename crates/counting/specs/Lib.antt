@@ -1,0 +1,2 @@
+-- What a counting layer counts.
+pub mod Tally

@@ -1,0 +1,2 @@
+-- Lemmas on the words that are granted.
+mod Totals

@@ -1,0 +1,4 @@
+-- What a quota layer means.
+pub mod Capped
+pub mod Faults
+pub mod Bounds

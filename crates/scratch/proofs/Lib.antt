@@ -1,0 +1,2 @@
+-- Lemmas on a scratch layer's own words.
+mod Opened

@@ -1,0 +1,4 @@
+-- What a scratch layer means.
+pub mod Scratched
+pub mod Faults
+pub mod Bounds

@@ -1,0 +1,4 @@
+-- What a slab means.
+pub mod Cuts
+pub mod Faults
+pub mod Bounds
