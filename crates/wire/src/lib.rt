@@ -1,6 +1,5 @@
-// Words and pointer words of Cap'n Proto messages: packing and unpacking, sizes in words, and the kinds of list elements.
-mod bits;
-pub mod elements;
+// Words and pointer words of Cap'n Proto messages: packing and unpacking, and sizes in words.
+pub mod bits;
 pub mod pointers;
 pub mod sizes;
 pub mod worked;

@@ -31,13 +31,13 @@ pub struct WirePointer {
 // The parts of a pointer word. A part that the word's kind does not have is read all the same.
 impl WirePointer {
     pub fn is_null(self) -> bool
-        ensures { λ r. ⌜ r ≡ eqb (self .word) 0 ⌝ }
+        ensures value { λ r. ⌜ r ≡ eqb (self .word) 0 ⌝ }
     {
         self.word == 0
     }
 
     pub fn kind(self) -> WirePointerKind
-        ensures { λ r. ⌜ kind-number r ≡ pointer-kind (self .word) ⌝ }
+        ensures value { λ r. ⌜ kind-number r ≡ pointer-kind (self .word) ⌝ }
     {
         match low_bits(self.word, 2) {
             0 => WirePointerKind::Struct,
@@ -49,7 +49,7 @@ impl WirePointer {
 
     // The offset of a struct or list pointer, in words from the word after it.
     pub fn offset(self) -> i32
-        ensures { λ r. ⌜ r ≡ pointer-offset (self .word) ⌝ }
+        ensures value { λ r. ⌜ r ≡ pointer-offset (self .word) ⌝ }
     {
         (low_bits(self.word, 32) as u32).cast_signed() >> 2
     }
@@ -77,7 +77,7 @@ impl WirePointer {
     }
 
     pub fn element_size(self) -> ElementSize
-        ensures { λ r. ⌜ code-of r ≡ list-code (self .word) ⌝ }
+        ensures value { λ r. ⌜ code-of r ≡ list-code (self .word) ⌝ }
     {
         match low_bits(self.word >> 32, 3) {
             0 => ElementSize::Void,
@@ -93,34 +93,34 @@ impl WirePointer {
 
     // The elements of a list; of a struct list the words of its rows.
     pub fn element_count(self) -> u32
-        ensures { λ r. ⌜ r ≡ list-count (self .word) ⌝ }
+        ensures value { λ r. ⌜ r ≡ list-count (self .word) ⌝ }
     {
         (self.word >> 35) as u32
     }
 
     // The rows of a struct list, from its tag.
     pub fn row_count(self) -> u32
-        ensures { λ r. ⌜ r ≡ offset-field (self .word) ⌝ }
+        ensures value { λ r. ⌜ r ≡ offset-field (self .word) ⌝ }
     {
         (low_bits(self.word, 32) >> 2) as u32
     }
 
     pub fn far_segment(self) -> usize
-        ensures { λ r. ⌜ r ≡ far-segment (self .word) ⌝ }
+        ensures value { λ r. ⌜ r ≡ far-segment (self .word) ⌝ }
     {
         (self.word >> 32) as usize
     }
 
     // The word of the landing pad.
     pub fn far_word(self) -> usize
-        ensures { λ r. ⌜ r ≡ far-word (self .word) ⌝ }
+        ensures value { λ r. ⌜ r ≡ far-word (self .word) ⌝ }
     {
         (low_bits(self.word, 32) >> 3) as usize
     }
 
     // Whether the landing pad has two words.
     pub fn is_double_far(self) -> bool
-        ensures { λ r. ⌜ r ≡ eqb (far-mark (self .word)) 1 ⌝ }
+        ensures value { λ r. ⌜ r ≡ eqb (far-mark (self .word)) 1 ⌝ }
     {
         low_bits(self.word >> 2, 1) == 1
     }
@@ -144,7 +144,7 @@ fn struct_half(size: StructSize) -> u64
 impl WirePointer {
     // The null pointer.
     pub fn null() -> WirePointer
-        ensures { λ r. ⌜ r .word ≡ 0 ⌝ }
+        ensures value { λ r. ⌜ r .word ≡ 0 ⌝ }
     {
         WirePointer { word: 0 }
     }

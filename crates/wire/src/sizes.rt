@@ -37,7 +37,7 @@ pub enum TooLarge {
 impl StructSize {
     // The words of the struct, or of a row of these sizes.
     pub fn total(self) -> u32
-        ensures { λ r. ⌜ r ≡ self .data + self .pointers ⌝ }
+        ensures value { λ r. ⌜ r ≡ self .data + self .pointers ⌝ }
     {
         self.data as u32 + self.pointers as u32
     }
@@ -46,7 +46,7 @@ impl StructSize {
 impl ElementSize {
     // The size of the elements of a list of this code.
     pub fn from_code(code: u32) -> Option<ElementSize>
-        ensures { λ r. ⌜ r ≡ size-of-code code ⌝ }
+        ensures value { λ r. ⌜ r ≡ size-of-code code ⌝ }
     {
         match code {
             0 => Some(ElementSize::Void),
@@ -62,7 +62,7 @@ impl ElementSize {
     }
 
     pub fn code(self) -> u32
-        ensures { λ r. ⌜ r ≡ code-of self ⌝ }
+        ensures value { λ r. ⌜ r ≡ code-of self ⌝ }
     {
         match self {
             ElementSize::Void => 0,
@@ -78,7 +78,7 @@ impl ElementSize {
 
     // The bits that a list has for each of its count.
     pub fn bits(self) -> u32
-        ensures { λ r. ⌜ r ≡ element-bits (code-of self) ⌝ }
+        ensures value { λ r. ⌜ r ≡ element-bits (code-of self) ⌝ }
     {
         match self {
             ElementSize::Void => 0,
@@ -95,7 +95,7 @@ impl ElementSize {
 
 // The words of a list of so many elements (for code 7, the words of its rows).
 pub fn list_words(element: ElementSize, count: u32) -> Result<u32, TooLarge>
-    ensures { λ r. ⌜ r ≡ sized-list (code-of element) count ⌝ }
+    ensures value { λ r. ⌜ r ≡ sized-list (code-of element) count ⌝ }
 {
     if count >= 1 << 29 {
         return Err(TooLarge::Elements);
@@ -106,7 +106,7 @@ pub fn list_words(element: ElementSize, count: u32) -> Result<u32, TooLarge>
 
 // The words of the rows of a struct list.
 pub fn rows_words(rows: u32, size: StructSize) -> Result<u32, TooLarge>
-    ensures { λ r. ⌜ r ≡ sized-rows rows (size .data) (size .pointers) ⌝ }
+    ensures value { λ r. ⌜ r ≡ sized-rows rows (size .data) (size .pointers) ⌝ }
 {
     if rows >= 1 << 30 {
         return Err(TooLarge::Rows);

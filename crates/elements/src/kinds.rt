@@ -1,14 +1,13 @@
-// The elements of lists of code 0 to 5: what they have in common, the seven kinds, and their bits in a word.
+// The kinds of elements of lists of code 0 to 5: what they have in common, and the seven kinds.
 ghost use Prim.Native.Nat.{ℕ, _%_, _<_, _^_};
 ghost use mathlib.Core.Path.{_≡_};
 ghost use mathlib.Core.Bool.{Bool, true, false};
 ghost use mir.Val.{SFits, toZ, ofZ};
 ghost use mir.Syntax.{w32};
 ghost use Rattle.wire.specs.Sizes.{code-of, element-bits};
-ghost use Rattle.wire.specs.Elements.{element-word, element-bit, element-in, element-put, bit-of, flag-of};
-use super::bits::low_bits;
-use super::bits::splice;
-use super::sizes::ElementSize;
+ghost use Rattle.wire.specs.Elements.{bit-of, flag-of};
+use wire::bits::low_bits;
+use wire::sizes::ElementSize;
 
 // A kind of element: the code of its lists, and values that turn into as many bits and back without loss.
 pub trait PrimitiveElement: Sized {
@@ -30,7 +29,7 @@ pub trait PrimitiveElement: Sized {
     law forth: { (b : ℕ) → b < 2 ^ element-bits code → bits (value b) ≡ b };
 
     fn element_size() -> ElementSize
-        ensures { λ r. ⌜ code-of r ≡ code ⌝ };
+        ensures value { λ r. ⌜ code-of r ≡ code ⌝ };
 
     fn to_bits(self) -> u64
         ensures bits { λ r. ⌜ r ≡ bits self ⌝ }
@@ -38,7 +37,7 @@ pub trait PrimitiveElement: Sized {
 
     // The value of the lowest bits of b.
     fn from_bits(b: u64) -> Self
-        ensures { λ r. ⌜ r ≡ value (b % 2 ^ element-bits code) ⌝ };
+        ensures value { λ r. ⌜ r ≡ value (b % 2 ^ element-bits code) ⌝ };
 }
 
 pub impl PrimitiveElement for () as UnitElement {
@@ -192,45 +191,4 @@ pub impl PrimitiveElement for i32 as I32Element {
     fn from_bits(b: u64) -> Self {
         (low_bits(b, 32) as u32).cast_signed()
     }
-}
-
-// The word of a list that holds the element of this index, counted from the list's first word.
-pub fn element_word<E: PrimitiveElement>(index: usize) -> usize
-    ensures { λ r. ⌜ r ≡ element-word (E·PrimitiveElement .code) index ⌝ }
-{
-    let bits = E::element_size().bits() as usize;
-    if bits == 0 {
-        return 0;
-    }
-    index / (64 / bits)
-}
-
-// The lowest bit of the element of this index in its word.
-fn element_bit(element: ElementSize, index: usize) -> u32
-    requires { ⌜ code-of element < 6 ⌝ }
-    ensures { λ r. ⌜ r ≡ element-bit (code-of element) index ⌝ }
-{
-    ((index % 64) as u32 * element.bits()) % 64
-}
-
-// The element of this index, from the word that holds it.
-pub fn get_element<E: PrimitiveElement>(word: u64, index: usize) -> E
-    ensures { λ r. ⌜ r ≡ E·PrimitiveElement .value (element-in word (E·PrimitiveElement .code) index) ⌝ }
-{
-    E::from_bits(word >> element_bit(E::element_size(), index))
-}
-
-// The word with the element of this index replaced, which is read back, and no other.
-pub fn put_element<E: PrimitiveElement>(word: u64, index: usize, x: E) -> u64
-    ensures word { λ r. ⌜ r ≡ element-put word (E·PrimitiveElement .code) index (E·PrimitiveElement .bits x) ⌝ }
-    ensures back { λ r. ⌜ E·PrimitiveElement .value (element-in r (E·PrimitiveElement .code) index) ≡ x ⌝ }
-    ensures others { λ r. ⌜ ((j : ℕ) → element-word (E·PrimitiveElement .code) j ≡ element-word (E·PrimitiveElement .code) index → (j ≡ index → ⊥) → element-in r (E·PrimitiveElement .code) j ≡ element-in word (E·PrimitiveElement .code) j) ⌝ }
-{
-    let element = E::element_size();
-    splice(
-        word,
-        element_bit(element, index),
-        element.bits(),
-        x.to_bits(),
-    )
 }

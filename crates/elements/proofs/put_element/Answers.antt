@@ -2,10 +2,10 @@
 use Prim.Native.Nat.{ℕ, _<_, _^_}
 use mathlib.Core.Path.{_≡_, ap, _∙_, sym}
 use borrow.Author.Needs.{needs}
 use Rattle.wire.specs.Sizes.{element-bits}
 use Rattle.wire.specs.Elements.{element-in, element-put}
 use Rattle.wire.proofs.Splices.{element-back, element-others}
-use Rattle.wire.proofs.elements.put_element.Needs as need
+use Rattle.elements.proofs.put_element.Needs as need
 
 pub returns : need.returns
 returns g c =
