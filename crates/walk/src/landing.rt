@@ -6,10 +6,9 @@ ghost use Rattle.tree.specs.Shows.{land};
 ghost use Rattle.walk.specs.Landings.{landing-of};
 use segments::reading::Reading;
 use wire::pointers::WirePointer;
-use wire::pointers::WirePointerKind;
 
 // The pointer that describes an object, where the object begins, and the landing pads before it.
-#[derive(Clone, Copy, Debug, PartialEq, Eq)]
+#[derive(Clone, Copy)]
 pub struct Landing {
     pub pointer: WirePointer,
     pub segment: usize,
@@ -40,7 +39,7 @@ pub fn follow<R: Reading>(reading: &R, g: usize, w: usize) -> Landing
     ensures value { λ r. ⌜ landing-of r ≡ land (memory (R·Reading .segments (now (reading .entry)))) g w ⌝ }
 {
     let slot = pointer_at(reading, g, w);
-    if slot.kind() != WirePointerKind::Far {
+    if !slot.is_far() {
         return Landing {
             pointer: slot,
             segment: g,

@@ -47,6 +47,12 @@ impl WirePointer {
         }
     }
 
+    pub fn is_far(self) -> bool
+        ensures value { λ r. ⌜ r ≡ eqb (pointer-kind (self .word)) 2 ⌝ }
+    {
+        low_bits(self.word, 2) == 2
+    }
+
     // The offset of a struct or list pointer, in words from the word after it.
     pub fn offset(self) -> i32
         ensures value { λ r. ⌜ r ≡ pointer-offset (self .word) ⌝ }
