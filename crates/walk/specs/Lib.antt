@@ -1,2 +1,3 @@
 -- What the answers of a walk mean.
 pub mod Landings
+pub mod Shapes
