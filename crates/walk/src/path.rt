@@ -1,11 +1,12 @@
 // Places: the steps of a path, and the slot to which they lead.
-ghost use Prim.Native.Nat.{ℕ};
+ghost use Prim.Native.Nat.{ℕ, _≤_, _^_};
 ghost use mathlib.Core.Path.{_≡_};
 ghost use Rattle.tree.specs.Words.{word as memory};
-ghost use Rattle.tree.specs.Value.{rows, pointers, step-kind, slot};
+ghost use Rattle.tree.specs.Value.{Value, rows, pointers, step-kind, slot};
+ghost use Rattle.tree.specs.Shows.{Shows};
 ghost use Rattle.law.specs.Machine.{meets};
 ghost use Rattle.walk.specs.Shapes.{shape-meant};
-ghost use Rattle.walk.specs.Slots.{step-of, next-slot};
+ghost use Rattle.walk.specs.Slots.{step-of, steps-of, next-slot, slots-along, place-in};
 use super::landing::follow;
 use super::landing::word_at;
 use super::shape::Shape;
@@ -20,6 +21,12 @@ pub struct Step {
     pub kind: u32,
     pub element: u32,
     pub pointer: u32,
+}
+
+// The step, counted from 0, that goes nowhere: it meets null, another kind or a number out of range.
+#[derive(Clone, Copy)]
+pub struct Nowhere {
+    pub step: usize,
 }
 
 impl Shape {
@@ -75,7 +82,9 @@ impl Shape {
     pub fn meets(self, step: Step) -> bool
         ensures value { λ r. ⌜ r ≡ meets (shape-meant self) (step-of step) ⌝ }
     {
-        step.kind == self.step_kind() && step.element < self.rows() && step.pointer < self.pointers()
+        step.kind == self.step_kind()
+            && step.element < self.rows()
+            && step.pointer < self.pointers()
     }
 }
 
@@ -96,4 +105,19 @@ pub fn next_slot<R: Reading>(reading: &R, g: usize, w: usize, step: Step) -> Opt
         Some(q) => Some((landing.segment, q)),
         None => None,
     }
+}
+
+// The slot at the end of the path, from the root word on. On a sound message it is where the tree says.
+pub fn resolve<R: Reading>(reading: &R, path: &[Step]) -> Result<(usize, usize), Nowhere>
+    ensures value { λ r. ⌜ r ≡ slots-along (memory (R·Reading .segments (now (reading .entry)))) (0, 0) (now (path .entry)) 0 ⌝ }
+    ensures sound { λ r. ⌜ ((a : ℕ → ℕ) (v : Value) → ((x : ℕ) → a x ≤ 2 ^ 29) → Shows (memory (R·Reading .segments (now (reading .entry)))) a 0 0 v → r ≡ place-in (memory (R·Reading .segments (now (reading .entry)))) v (steps-of (now (path .entry)))) ⌝ }
+{
+    let mut at = (0, 0);
+    for i in 0..path.len() {
+        match next_slot(reading, at.0, at.1, path[i]) {
+            Some(q) => at = q,
+            None => return Err(Nowhere { step: i }),
+        }
+    }
+    Ok(at)
 }
