@@ -2,4 +2,4 @@ use Rattle.law.proofs.Tables.{tables}
 use Rattle.law.proofs.refusals_change_nothing.Needs as need
 
 pub returns : need.returns
-returns c = tables
+returns g c = tables _

@@ -2,4 +2,4 @@ use Rattle.law.proofs.Drafts.{runs}
 use Rattle.law.proofs.runs_follow_the_machine.Needs as need
 
 pub returns : need.returns
-returns c = runs
+returns g c = runs _ _
