@@ -17,3 +17,5 @@ pub mod Rebuilds
 pub mod Turns
 pub mod Fitting
 pub mod Enough
+pub mod Cases
+pub mod Excluded

@@ -1,6 +1,10 @@
-// The law of calls. All of it is definitions and proofs: each function here names theorems, so that the check asks for their proofs.
+// The law of calls: what each call does between the state before it and the state after it, and what follows for every run. All of it
+// is definitions and proofs; each function here names theorems, so that the check asks for their proofs. X and Y stand for types of
+// sources.
+ghost use Rattle.law.specs.Cases.{Worked-cases};
 ghost use Rattle.law.specs.Drafts.{Runs-stand, Tables-stand};
 ghost use Rattle.law.specs.Enough.{Exact-words-keep-the-law};
+ghost use Rattle.law.specs.Excluded.{Examples, Wrong-behaviours-excluded};
 
 // A call that leaves exactly the words of the definition keeps the law, whatever the edit is; so do the refusals.
 pub fn exact_words_keep_the_law<X>()
@@ -8,7 +12,7 @@ pub fn exact_words_keep_the_law<X>()
 {}
 
 // Every run of calls by the law ends in well laid out words that decode to the plain machine's tree, with the machine's answers; two
-// runs of one list agree where no call got "no space"; trees are nested at most 64 deep.
+// runs of one list agree where no call got "no space"; trees are nested at most 64 deep; the first offers stay.
 pub fn runs_follow_the_machine<X, Y>()
     ensures { λ _. ⌜ Runs-stand X Y ⌝ }
 {}
@@ -16,4 +20,19 @@ pub fn runs_follow_the_machine<X, Y>()
 // A call by the law keeps capacities, lowers no count, and changes nothing where it refuses.
 pub fn refusals_change_nothing<X>()
     ensures { λ _. ⌜ Tables-stand X ⌝ }
+{}
+
+// Calls that leave other words, grant too much, refuse without need or do nothing are not by the law.
+pub fn wrong_behaviours_are_excluded<X>()
+    ensures { λ _. ⌜ Wrong-behaviours-excluded X ⌝ }
+{}
+
+// A small run is by the law, and one that asks for more than it needs is not.
+pub fn examples_hold()
+    ensures { λ _. ⌜ Examples ⌝ }
+{}
+
+// The words of small messages are those that were worked out by hand.
+pub fn worked_cases_hold()
+    ensures { λ _. ⌜ Worked-cases ⌝ }
 {}
