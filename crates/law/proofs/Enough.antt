@@ -68,13 +68,15 @@ module _ {X : Type 0} (S : Source X) where
       (record { stands = k .stands; laid = same-laid _ _ _ _ v same alike (k .before .laid); nested = k .before .nested }))
       (subst (λ b. y .says ≡ judged v c b fine .0) (sym is) (k .says-is))
       (record {
-        is-eleven = is;
+        back = record {
+          number-is = is;
+          all-used = k .all-used;
+          granted = k .granted;
+          table-is = k .table-is;
+          segments-are = k .segments-are;
+        };
         minimum-is = refl;
-        all-used = k .all-used;
-        granted = k .granted;
         no-more = k .no-more;
-        table-is = k .table-is;
-        segments-are = k .segments-are;
       })
     where
       counts-of : State → ℕ → ℕ

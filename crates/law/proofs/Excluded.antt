@@ -90,7 +90,7 @@ greedy : (s′ : State) →
 unfolding change word land within total shape-of decode anywhere place pad root judge effect moved call-outcome
 greedy s′ h =
     let p = crowded-by slab (draft 11 1 two-children (seg 3 3 ∷ [])) (tree-of two-children) (at-root (get-struct 1 2)) (4 ∷ 3 ∷ []) (says (refused 11) 2 (0, 0)) s′ _ _ refl refl h in
-    let (on, sized, lawful, first, rest) = p .granted .1 in
+    let (on, sized, lawful, first, rest) = p .back .granted .1 in
     let one : offer-of (on .step) (on .words) 1 ≡ Some 1 = ap (λ o. o 1) first in
     let all : offer-of (on .step) (on .words) 11 ≡ Some 11 = ap (λ o. o 11) first in
     let a = offer-is (on .step) (on .words) 1 1 one in

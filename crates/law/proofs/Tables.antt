@@ -73,13 +73,13 @@ module _ {X : Type 0} (S : Source X) where
     kept-by (wrong a) o h p = rw (p .same, p .no-grant) (sym (append-none _))
     kept-by fine (got r w) h p = rw (p .table-is) (sym (append-none _) ∙ ap (λ l. capacities (r .table) ++ l) (sym (p .all-used)) ∙ h .capacities-same)
     kept-by fine (no-space r m) h p =
-        rw (p .table-is) (capacities-append (s .table) _ ∙ ap (λ l. capacities (s .table) ++ l) (capacities-fresh met))
+        rw (p .back .table-is) (capacities-append (s .table) _ ∙ ap (λ l. capacities (s .table) ++ l) (capacities-fresh met))
 
     grow-by : (d : Verdict) (o : Outcome Written) → After start o → Placing S s v c met y s′ d o → (g : ℕ) → allocated-in (s .table) g ≤ allocated-in (s′ .table) g
     unfolding After
     grow-by (wrong a) o h p g = rw (p .same) (omega arith)
     grow-by fine (got r w) h p g = rw (p .table-is) (h .grown g)
-    grow-by fine (no-space r m) h p g = rw (p .table-is) (append-more (s .table) _ g)
+    grow-by fine (no-space r m) h p g = rw (p .back .table-is) (append-more (s .table) _ g)
 
     refuse-by : (d : Verdict) (o : Outcome Written) → y .says ≡ judged v c (told (y .says)) d .0 → Placing S s v c met y s′ d o → Refusal (y .says) →
         (memory s′ ≡ memory s) × ((g : ℕ) → allocated-in (s′ .table) g ≡ allocated-in (s .table) g)
@@ -88,12 +88,12 @@ module _ {X : Type 0} (S : Source X) where
         let f : y .says ≡ judged v c 0 fine .0 = subst (λ b. y .says ≡ judged v c b fine .0) (p .untold) e in
         absurd (accepted-no-refusal (c .edit) (effect (c .edit) (value-at v (c .path))) (subst Refusal f q))
     refuse-by fine (no-space r m) e p q =
-        (ap word (p .segments-are) ∙ same-memory (s .source .segments) met, λ g. rw (p .table-is) (append-fresh (s .table) met g))
+        (ap word (p .back .segments-are) ∙ same-memory (s .source .segments) met, λ g. rw (p .back .table-is) (append-fresh (s .table) met g))
 
     first-by : (d : Verdict) (o : Outcome Written) → Placing S s v c met y s′ d o → s′ .source .first-offers ≡ s .source .first-offers
     first-by (wrong a) o p = ap (λ t. t .source .first-offers) (p .same)
     first-by fine (got r w) p = granted-first (s .source) (s′ .source) (r .asked) met (p .granted)
-    first-by fine (no-space r m) p = granted-first (s .source) (s′ .source) (r .asked) met (p .granted)
+    first-by fine (no-space r m) p = granted-first (s .source) (s′ .source) (r .asked) met (p .back .granted)
 
   met-by : (s s′ : State) (met : List ℕ) → capacities (s′ .table) ≡ capacities (s .table) ++ met → met ≡ met-in s s′
   met-by s s′ met e = rw (e, ← capacities-length (s .table)) (sym (drop-front (capacities (s .table)) met))

@@ -99,10 +99,10 @@ module _ (H : Memory) (v : Value) (p : List Step) (r : Room) (c : Site H (counts
   at-spots sh d = spots r g w sh d (slot-allocated H (counts r) v p c)
 
   turn-rebuild : (sh : Shape) (dat : ℕ → ℕ → ℕ) (kid : ℕ → ℕ → Value) (sh′ : Shape) → value-at v p ≡ object sh dat kid → Grows sh sh′ → Describable sh′ →
-      Got (Turns (rebuild sh′) (object sh dat kid)) (rebuilds H (walk H 0 0 v p .0) (walk H 0 0 v p .1) (object sh dat kid) sh′ r)
+      Got (Turns (rebuild sh′) (object sh dat kid)) (rebuilds H (walk H 0 0 v p .0) (walk H 0 0 v p .1) (land H (walk H 0 0 v p .0) (walk H 0 0 v p .1)) (object sh dat kid) sh′ r)
   turn-rebuild sh dat kid sh′ is grows d =
       let old : Landing = land H g w in
-      got-by (Turns (rebuild sh′) (object sh dat kid)) (rebuilds H g w (object sh dat kid) sh′ r)
+      got-by (Turns (rebuild sh′) (object sh dat kid)) (rebuilds H g w (land H g w) (object sh dat kid) sh′ r)
       (λ r₂ x e small.
       let (r₁, q, e₁, f₁) = then-got (place-shape r g w sh′) _ r₂ x e in
       let start : Memory = copied H old sh (q .0) (q .1) sh′ (opened H g (q .0) (q .1) sh′) in

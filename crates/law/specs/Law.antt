@@ -142,15 +142,19 @@ pub record Accepted {X : Type 0} (S : Source X) (s : State) (v : Value) (c : Cal
   pub words-are : memory s′ ≡ written .words
   pub leads : Leads (y .says) (y .pair) (written .pair) (memory s′) (walk (memory s′) 0 0 (next v c y) (c .path))
 
--- ruling 11: a segment for the minimum was needed, and there was none; segments granted on the way stay, empty
-pub record Crowded {X : Type 0} (S : Source X) (s : State) (met : List ℕ) (y : Reply) (s′ : State) (r : Room) (minimum : ℕ) : Type 0 where
-  pub is-eleven : told (y .says) ≡ 11
-  pub minimum-is : y .minimum ≡ minimum
+-- refused on the way with the number n: all words are as before, and segments granted on the way stay, empty
+pub record Turned-back {X : Type 0} (S : Source X) (s : State) (met : List ℕ) (y : Reply) (s′ : State) (r : Room) (n : ℕ) : Type 0 where
+  pub number-is : told (y .says) ≡ n
   pub all-used : r .coming ≡ []
   pub granted : Granted S (s .source) (r .asked) met (s′ .source)
-  pub no-more : (length (s′ .table) ≡ 64) ⊎ (s′ .source .offers minimum ≡ None)
   pub table-is : s′ .table ≡ s .table ++ all-fresh met
   pub segments-are : s′ .source .segments ≡ s .source .segments ++ zero-segments met
+
+-- ruling 11: a segment for the minimum was needed, and there was none
+pub record Crowded {X : Type 0} (S : Source X) (s : State) (met : List ℕ) (y : Reply) (s′ : State) (r : Room) (minimum : ℕ) : Type 0 where
+  pub back : Turned-back S s met y s′ r 11
+  pub minimum-is : y .minimum ≡ minimum
+  pub no-more : (length (s′ .table) ≡ 64) ⊎ (s′ .source .offers minimum ≡ None)
 
 abbrev pub Placing : {X : Type 0} → Source X → State → Value → Call → List ℕ → Reply → State → Verdict → Outcome Written → Type 0
 Placing S s v c met y s′ (wrong a) o = Turned-down s met s′
