@@ -25,6 +25,7 @@ use Rattle.law.specs.Machine.{Making, keep, rebuild, making, grown, enough, Ve
 use Rattle.law.specs.Exact.{Written, makes, call-outcome}
 use Rattle.law.specs.Law.{Source, State, memory, Bare, Stands, Holds, Reply, told, next, Leads, Placing, Lawful}
 use Rattle.law.specs.Enough.{Pair-is, Accepts, Crowds, Exact-words-keep-the-law}
+use Rattle.law.proofs.Grants.{granted-join}
 use Rattle.law.proofs.Judged.{fine-goes, fine-ruling}
 use Rattle.law.proofs.Nesting.{step-deep}
 use Rattle.law.proofs.Tables.{same-memory}
@@ -228,4 +229,4 @@ module _ {X : Type 0} (S : Source X) where
       })
 
 pub exact : (X : Type 0) → Exact-words-keep-the-law X
-exact X = record { rejects = rejects; crowds = crowds; accepts = accepts }
+exact X = record { rejects = rejects; crowds = crowds; accepts = accepts; grants-join = granted-join }

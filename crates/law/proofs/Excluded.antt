@@ -141,7 +141,7 @@ first-call =
       judged-fine = refl;
       outcome = refl;
       all-used = refl;
-      granted = (refl, (record { words = 16; step = 16; cut = replicate 16 0 ∷ [] }, refl, slab-offered 16 0 (lit≤ tt), refl, (refl, refl)));
+      granted = (refl, (record { words = 16; step = 16; cut = replicate 16 0 ∷ [] }, refl, slab-offered 16 0 (lit≤ tt), refl, (refl, refl, refl)));
       table-is = refl;
       stands = stands;
       words-are = fun-ext (λ g. fun-ext (λ w. words g w));
@@ -171,7 +171,7 @@ second-call =
       judged-fine = refl;
       outcome = refl;
       all-used = refl;
-      granted = (refl, refl);
+      granted = (refl, refl, refl);
       no-more = inr refl;
       segments-are = refl;
       table-is = refl;

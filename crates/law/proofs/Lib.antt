@@ -3,6 +3,7 @@ pub mod Judged
 pub mod Nesting
 pub mod Rooms
 pub mod Tables
+pub mod Grants
 pub mod Runs
 pub mod Drafts
 pub mod Spots

@@ -57,7 +57,7 @@ accepted-no-refusal (write k code i x) u h = h
 
 module _ {X : Type 0} (S : Source X) where
   pub granted-first : (from to : Meaning) (ms cs : List ℕ) → Granted S from ms cs to → to .first-offers ≡ from .first-offers
-  granted-first from to [] [] h = h .1
+  granted-first from to [] [] h = h .2
   granted-first from to [] (c ∷ cs) h = absurd h
   granted-first from to (m ∷ ms) [] h = absurd h
   granted-first from to (m ∷ ms) (c ∷ cs) h = granted-first (S (h .1 .0)) to ms cs (h .1 .4) ∙ h .1 .3

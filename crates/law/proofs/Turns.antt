@@ -22,7 +22,7 @@ use Rattle.law.proofs.Rooms.{after-moves}
 use Rattle.law.proofs.Children.{got-then}
 use Rattle.law.proofs.Makings.{Site, Turned, slot-allocated, turn-null, turn-number, turn-new, new-leads}
 use Rattle.law.proofs.Texts.{turn-text}
-use Rattle.law.proofs.Moving.{got-by, got-at, Inv, all-move}
+use Rattle.law.proofs.Moving.{got-by, got-at, P, all-move}
 use Rattle.law.proofs.Rebuilds.{Grows, begins, more-rows, slots-null, slots-inside, Hc, turn-larger, larger-leads}
 
 -- ## A value put back
@@ -117,7 +117,9 @@ module _ (H : Memory) (v : Value) (p : List Step) (r : Room) (c : Site H (counts
       subst (λ z. moves old sh (o .l .seg) z sh′ r₁ start ≡ got r₃ N) (sym (o .pos-is))
       (subst (λ z. moves old sh z (q .1) sh′ r₁ start ≡ got r₃ N) (sym (o .seg-is)) e₂) in
       let done =
-      got-at _ (moves old sh (o .l .seg) (o .l .pos) sh′ r₁ start) r₃ N
+      got-at
+      (P H v p sh (o .l) sh′ kid (more-rows H (counts r) v p c sh dat kid is sh′ grows (q .0) (q .1) (counts r₁) o) (grows .more-pointers) start (counts r₁) (rows sh) 0)
+      (moves old sh (o .l .seg) (o .l .pos) sh′ r₁ start) r₃ N
       (all-move H v p sh (o .l) sh′ kid
       (more-rows H (counts r) v p c sh dat kid is sh′ grows (q .0) (q .1) (counts r₁) o) (grows .more-pointers) start (counts r₁)
       (λ i j hi hj. slots-null H (counts r) v p c sh dat kid is sh′ grows (q .0) (q .1) (counts r₁) o i j (omega (arith, grows .rows-same)) (omega (arith, grows .more-pointers)))
@@ -128,7 +130,7 @@ module _ (H : Memory) (v : Value) (p : List Step) (r : Room) (c : Site H (counts
       subst (λ z. Turned H (z .words) (counts r₂) v p (object sh′ dat kid) × (z .pair ≡ (land (z .words) g w .seg, land (z .words) g w .pos))) is-x (
         subst (λ z. Turned H (closed N g w old sh (q .0) (q .1) sh′) (counts z) v p (object sh′ dat kid)) same-room
             (turn-larger H (counts r) v p c sh dat kid is sh′ grows (q .0) (q .1) (counts r₁) o r₃ N done),
-        spot-pair g w q sh′ (counts r) (counts r₁) o _ (larger-leads H (counts r) v p c sh dat kid is sh′ grows (q .0) (q .1) (counts r₁) o r₃ N done),
+        spot-pair g w q sh′ (counts r) (counts r₁) o (land (closed N g w old sh (q .0) (q .1) sh′) g w) (larger-leads H (counts r) v p c sh dat kid is sh′ grows (q .0) (q .1) (counts r₁) o r₃ N done),
       ))
 
   pub turns : (m : Making) (u : Value) → value-at v p ≡ u → Fits-making m u →

@@ -11,7 +11,7 @@ use Rattle.table.specs.Placing.{Room, room, got, no-space}
 use Rattle.law.specs.Calls.{Call, Typed, Answer, refused, nowhere, sizes, no-sizes, done, value}
 use Rattle.law.specs.Machine.{fine, wrong, judge, reply, effect}
 use Rattle.law.specs.Exact.{Written, call-outcome}
-use Rattle.law.specs.Law.{Source, State, memory, Stands, Holds, Granted, zero-segments, Reply, Lawful}
+use Rattle.law.specs.Law.{Source, Meaning, State, memory, Stands, Holds, Granted, zero-segments, Reply, Lawful}
 
 -- the pair of an answer: where the object was placed, and (0, 0) for a null place
 abbrev pub Pair-is : Answer → (pair placed : ℕ × ℕ) → Type 0
@@ -58,3 +58,6 @@ pub record Exact-words-keep-the-law (X : Type 0) : Type 0 where
   -- whatever the edit is
   pub accepts : (S : Source X) (s : State) (v : Value) (c : Call) (met : List ℕ) (y : Reply) (s′ : State) (r : Room) (written : Written) →
       Accepts S s v c met y s′ r written → Lawful S s v c met y s′
+  -- grants of two parts of a call, one after the other, are grants of the whole
+  pub grants-join : (S : Source X) (a b c : Meaning) (ms ns cs ds : List ℕ) → Granted S a ms cs b → Granted S b ns ds c →
+      Granted S a (ms ++ ns) (cs ++ ds) c

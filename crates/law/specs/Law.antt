@@ -106,7 +106,7 @@ next v c y = step v c (told (y .says)) .1
 -- From the source `from`, grants of the minima were answered by the capacities, one after the other, and the offers in the end are
 -- those of `to`. Each capacity is what a source of the type offers that has the segments granted so far and the same first offers.
 abbrev pub Granted : {X : Type 0} → Source X → (from : Meaning) → (minima capacities : List ℕ) → (to : Meaning) → Type 0
-Granted {X} S from [] [] to = (to .offers ≡ from .offers) × (to .first-offers ≡ from .first-offers)
+Granted {X} S from [] [] to = (lengths to ≡ lengths from) × (to .offers ≡ from .offers) × (to .first-offers ≡ from .first-offers)
 Granted {X} S from [] (c ∷ cs) to = ⊥
 Granted {X} S from (m ∷ ms) [] to = ⊥
 Granted {X} S from (m ∷ ms) (c ∷ cs) to =

@@ -1,3 +1,4 @@
 -- Lemmas of this crate.
 pub mod Tables
+pub mod Extending
 pub mod Allocations
