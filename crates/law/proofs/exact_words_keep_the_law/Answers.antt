@@ -1,3 +1,4 @@
+-- For every edit.
 use Rattle.law.proofs.Enough.{exact}
 use Rattle.law.proofs.exact_words_keep_the_law.Needs as need
 

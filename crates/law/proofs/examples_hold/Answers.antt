@@ -1,3 +1,4 @@
+-- The run and the greedy call.
 use Rattle.law.proofs.Excluded.{examples}
 use Rattle.law.proofs.examples_hold.Needs as need
 

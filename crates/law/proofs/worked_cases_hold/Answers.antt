@@ -1,3 +1,4 @@
+-- Each is computed.
 use Rattle.law.proofs.Cases.{worked}
 use Rattle.law.proofs.worked_cases_hold.Needs as need
 

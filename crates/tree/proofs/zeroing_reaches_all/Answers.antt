@@ -1,3 +1,4 @@
+-- The walk that zeroes.
 use Rattle.tree.proofs.Laws.{zeroing}
 use Rattle.tree.proofs.zeroing_reaches_all.Needs as need
 
