@@ -4,6 +4,7 @@
 ghost use Rattle.law.specs.Cases.{Worked-cases};
 ghost use Rattle.law.specs.Drafts.{Runs-stand, Tables-stand};
 ghost use Rattle.law.specs.Enough.{Exact-words-keep-the-law};
+ghost use Rattle.law.specs.Reads.{Reads-stand};
 ghost use Rattle.law.specs.Excluded.{Examples, Wrong-behaviours-excluded};
 
 // A call that leaves exactly the words of the definition keeps the law, whatever the edit is; so do the refusals.
@@ -20,6 +21,11 @@ pub fn runs_follow_the_machine<X, Y>()
 // A call by the law keeps capacities, lowers no count, and changes nothing where it refuses.
 pub fn refusals_change_nothing<X>()
     ensures { λ _. ⌜ Tables-stand X ⌝ }
+{}
+
+// The numbers that reads answer from the tree are those in the words.
+pub fn reads_answer_the_words()
+    ensures { λ _. ⌜ Reads-stand ⌝ }
 {}
 
 // Calls that leave other words, grant too much, refuse without need or do nothing are not by the law.
