@@ -2,3 +2,4 @@
 pub mod Tables
 pub mod Extending
 pub mod Allocations
+pub mod Bounds
