@@ -29,6 +29,7 @@ use Rattle.law.proofs.Grants.{granted-join}
 use Rattle.law.proofs.Judged.{fine-goes, fine-ruling}
 use Rattle.law.proofs.Nesting.{step-deep}
 use Rattle.law.proofs.Tables.{same-memory}
+use Rattle.law.proofs.Standing.{stands-accepted, stands-crowded}
 use Rattle.law.proofs.Inits.{counts, Small}
 use Rattle.law.proofs.Makings.{Site, Turned}
 use Rattle.law.proofs.Moving.{got-at}
@@ -66,7 +67,7 @@ module _ {X : Type 0} (S : Source X) where
       let alike : counts-of s′ ≡ counts-of s = ap allocated-in (k .table-is) ∙ fun-ext (λ g. append-fresh (s .table) met g) in
       lawful-by s v c met y s′ fine (no-space r (y .minimum)) (k .judged-fine) (k .outcome) (k .typed) (k .before)
       (subst (λ b. Holds S s′ (judged v c b fine .1)) (sym is)
-      (record { stands = k .stands; laid = same-laid _ _ _ _ v same alike (k .before .laid); nested = k .before .nested }))
+      (record { stands = stands-crowded S s v c met s′ r (y .minimum) (k .before .stands) (k .outcome) (k .all-used) (k .granted) (k .table-is) (k .valued); laid = same-laid _ _ _ _ v same alike (k .before .laid); nested = k .before .nested }))
       (subst (λ b. y .says ≡ judged v c b fine .0) (sym is) (k .says-is))
       (record {
         back = record {
@@ -203,7 +204,8 @@ module _ {X : Type 0} (S : Source X) where
       let u : Value = effect (c .edit) (value-at v p) in
       let H′ : Memory = memory s′ in
       let not : told (y .says) ≡ 0 = ap told (k .says-is) ∙ untold (c .edit) u in
-      let small : Small r = λ z. subst (λ t. allocated-in t z < 2 ^ 29) (k .table-is) (bounded-small (s′ .table) z (k .stands .bounded)) in
+      let stands : Stands S s′ = stands-accepted S s v c met s′ r x (k .before .stands) (k .outcome) (k .all-used) (k .granted) (k .table-is) (k .valued) in
+      let small : Small r = λ z. subst (λ t. allocated-in t z < 2 ^ 29) (k .table-is) (bounded-small (s′ .table) z (stands .bounded)) in
       let done = turned s v c met r x (k .typed) (k .before) (k .judged-fine) (k .outcome) small in
       let tree : next v c y ≡ accepted v c = ap (λ d. judged v c (told (y .says)) d .1) (k .judged-fine) ∙ ap (λ b. judged v c b fine .1) not in
       let laid : Well-laid H′ (allocated-in (s′ .table)) (accepted v c) =
@@ -214,7 +216,7 @@ module _ {X : Type 0} (S : Source X) where
       let lands : Memory → ℕ × ℕ → ℕ × ℕ = λ M q. (land M (q .0) (q .1) .seg, land M (q .0) (q .1) .pos) in
       lawful-by s v c met y s′ fine (got r x) (k .judged-fine) (k .outcome) (k .typed) (k .before)
       (subst (λ b. Holds S s′ (judged v c b fine .1)) (sym not)
-      (record { stands = k .stands; laid = inl laid; nested = subst (λ d. Deep 64 (judged v c 0 d .1)) (k .judged-fine) (step-deep v c 0 (k .before .nested)) }))
+      (record { stands = stands; laid = inl laid; nested = subst (λ d. Deep 64 (judged v c 0 d .1)) (k .judged-fine) (step-deep v c 0 (k .before .nested)) }))
       (subst (λ b. y .says ≡ judged v c b fine .0) (sym not) (k .says-is))
       (record {
         untold = not;

@@ -116,16 +116,6 @@ either-zero : (b : Bool) → _≡_ {A = ℕ} (cond b 0 0) 0
 either-zero true = refl
 either-zero false = refl
 
-stands : Stands slab with-struct
-stands = record {
-  valued = (record { words = 16; step = 16; cut = (0x0002000100000000 ∷ replicate 15 0) ∷ [] }, refl);
-  sizes-match = refl;
-  at-most = lit≤ tt;
-  bounded = (lit≤ tt, lit≤ tt, lit≤ tt, tt);
-  offered = slab-offered 16 0 (lit≤ tt);
-  first-offered = slab-offered 16 16 (lit≤ tt);
-}
-
 zero-read : (n w : ℕ) → _≡_ {A = ℕ} (getD (replicate n 0) w 0) 0
 zero-read zero w = refl
 zero-read (suc n) zero = refl
@@ -143,7 +133,7 @@ first-call =
       all-used = refl;
       granted = (refl, (record { words = 16; step = 16; cut = replicate 16 0 ∷ [] }, refl, slab-offered 16 0 (lit≤ tt), refl, (refl, refl, refl)));
       table-is = refl;
-      stands = stands;
+      valued = (record { words = 16; step = 16; cut = (0x0002000100000000 ∷ replicate 15 0) ∷ [] }, refl);
       words-are = fun-ext (λ g. fun-ext (λ w. words g w));
       says-is = refl;
       pair-is = refl;
@@ -175,7 +165,7 @@ second-call =
       no-more = inr refl;
       segments-are = refl;
       table-is = refl;
-      stands = stands;
+      valued = (record { words = 16; step = 16; cut = (0x0002000100000000 ∷ replicate 15 0) ∷ [] }, refl);
       says-is = refl;
     })
 

@@ -17,6 +17,7 @@ pub mod Copies
 pub mod Rebuilds
 pub mod Turns
 pub mod Fitting
+pub mod Standing
 pub mod Looks
 pub mod Enough
 pub mod Cases

@@ -11,7 +11,7 @@ use Rattle.table.specs.Placing.{Room, room, got, no-space}
 use Rattle.law.specs.Calls.{Call, Typed, Answer, refused, nowhere, sizes, no-sizes, done, value}
 use Rattle.law.specs.Machine.{fine, wrong, judge, reply, effect}
 use Rattle.law.specs.Exact.{Written, call-outcome}
-use Rattle.law.specs.Law.{Source, Meaning, State, memory, Stands, Holds, Granted, zero-segments, Reply, Lawful}
+use Rattle.law.specs.Law.{Source, Meaning, State, memory, Holds, Granted, zero-segments, Reply, Lawful}
 
 -- the pair of an answer: where the object was placed, and (0, 0) for a null place
 abbrev pub Pair-is : Answer → (pair placed : ℕ × ℕ) → Type 0
@@ -31,7 +31,7 @@ pub record Accepts {X : Type 0} (S : Source X) (s : State) (v : Value) (c : Call
   pub all-used : r .coming ≡ []
   pub granted : Granted S (s .source) (r .asked) met (s′ .source)
   pub table-is : s′ .table ≡ r .table
-  pub stands : Stands S s′
+  pub valued : (x : X) × (S x ≡ s′ .source)
   pub words-are : memory s′ ≡ written .words
   pub says-is : y .says ≡ reply (c .edit) (effect (c .edit) (value-at v (c .path)))
   pub pair-is : Pair-is (y .says) (y .pair) (written .pair)
@@ -47,7 +47,7 @@ pub record Crowds {X : Type 0} (S : Source X) (s : State) (v : Value) (c : Call)
   pub no-more : (length (s′ .table) ≡ 64) ⊎ (s′ .source .offers (y .minimum) ≡ None)
   pub segments-are : s′ .source .segments ≡ s .source .segments ++ zero-segments met
   pub table-is : s′ .table ≡ s .table ++ all-fresh met
-  pub stands : Stands S s′
+  pub valued : (x : X) × (S x ≡ s′ .source)
   pub says-is : y .says ≡ refused 11
 
 -- over every type X of sources
