@@ -87,12 +87,12 @@ get-fits sh dat kid dw pw h n = go (enough sh dw pw)
 
 -- ## Number writes
 
-nine : (b : Bool) → _≡_ {A = ℕ} (cond b 0 9) 0 → b ≡ true
+pub nine : (b : Bool) → _≡_ {A = ℕ} (cond b 0 9) 0 → b ≡ true
 nine true h = refl
 nine false h = absurd (omega arith)
 
 -- a number that fits stands in one of the data words
-fits-word : (c i d : ℕ) → 1 ≤ element-bits c → (i + 1) * element-bits c ≤ 64 * d → element-word c i < d
+pub fits-word : (c i d : ℕ) → 1 ≤ element-bits c → (i + 1) * element-bits c ≤ 64 * d → element-word c i < d
 fits-word zero i d h k = absurd (omega arith)
 fits-word (suc zero) i d h k = omega arith
 fits-word (suc (suc zero)) i d h k = omega arith
@@ -100,7 +100,7 @@ fits-word (suc (suc (suc zero))) i d h k = omega arith
 fits-word (suc (suc (suc (suc zero)))) i d h k = omega arith
 fits-word (suc (suc (suc (suc (suc n))))) i d h k = omega arith
 
-item-place : (c : Element) → eqb (element-pointers c) 0 ≡ true → 0 < 1 - element-pointers c
+pub item-place : (c : Element) → eqb (element-pointers c) 0 ≡ true → 0 < 1 - element-pointers c
 item-place c e = let z : element-pointers c ≡ 0 = eqb-true (element-pointers c) 0 e in omega arith
 
 number-fits : (h : Home) (code i x : ℕ) (sh : Shape) (dat : ℕ → ℕ → ℕ) (kid : ℕ → ℕ → Value) → 1 ≤ element-bits code → x < 2 ^ element-bits code →

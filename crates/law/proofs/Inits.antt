@@ -14,9 +14,8 @@ use Rattle.tree.proofs.Count.{within-le, within-in, within-from, within-none}
 use Rattle.tree.proofs.Context.{change-here, change-else}
 use Rattle.tree.proofs.Edits as edits
 use Rattle.tree.proofs.Blank as blanks
-use Rattle.tree.proofs.Inits.{beyond}
 use Rattle.tree.proofs.Values.{goes-put, value-at-put, put-put, put-walk}
-use Rattle.tree.proofs.Replace.{once-parts, outer-inside, slot-outer}
+use Rattle.tree.proofs.Replace.{once-parts, outer-inside, slot-outer, beyond}
 use Rattle.table.specs.Segments.{allocated-in}
 use Rattle.table.specs.Placing.{Room, Outcome, got, no-space, place}
 use Rattle.table.specs.Laws.{Got, Fresh, Placed}

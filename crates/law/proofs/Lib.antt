@@ -3,6 +3,7 @@ pub mod Judged
 pub mod Nesting
 pub mod Rooms
 pub mod Tables
+pub mod Grants
 pub mod Runs
 pub mod Drafts
 pub mod Spots
@@ -16,4 +17,8 @@ pub mod Copies
 pub mod Rebuilds
 pub mod Turns
 pub mod Fitting
+pub mod Standing
+pub mod Looks
 pub mod Enough
+pub mod Cases
+pub mod Excluded

@@ -21,9 +21,8 @@ use Rattle.tree.proofs.Blank.{fresh-within}
 use Rattle.tree.proofs.Frame.{describes-headed}
 use Rattle.tree.proofs.Numbers as numbers
 use Rattle.tree.proofs.Numbers.{place-word-in}
-use Rattle.tree.proofs.Inits.{beyond}
 use Rattle.tree.proofs.Values.{goes-put, value-at-put, put-put, put-walk}
-use Rattle.tree.proofs.Replace.{once-parts, outer-inside, slot-outer}
+use Rattle.tree.proofs.Replace.{once-parts, outer-inside, slot-outer, beyond}
 use Rattle.table.specs.Placing.{Room, Outcome, got, no-space}
 use Rattle.law.specs.Calls.{Bytes}
 use Rattle.law.specs.Machine.{text-shape, letters}

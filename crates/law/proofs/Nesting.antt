@@ -10,7 +10,7 @@ use Rattle.tree.proofs.Decoding.{deep-put}
 use Rattle.law.specs.Calls.{Edit, Call}
 use Rattle.law.specs.Machine.{Making, keep, wipe, set, new, spell, rebuild, making, made, effect, Verdict, fine, wrong, judge, judged, step}
 use Rattle.law.specs.Runs.{Fed, tree}
-use Rattle.law.specs.Drafts.{drafting}
+use Rattle.law.specs.Drafts.{plain-machine}
 use Rattle.law.proofs.Judged.{fine-short}
 
 made-deep : (m : Making) (u : Value) (d : ℕ) → Deep (suc d) u → Deep (suc d) (made m u)
@@ -37,9 +37,9 @@ step-deep v c told n = go told (judge v c) refl
         let h : length (c .path) ≤ 63 = fine-short v c e in
         deep-put (c .path) v _ 64 (suc (63 - length (c .path))) (omega arith) n (effect-deep (c .edit) (value-at v (c .path)) _)
 
-tree-deep : (fs : List (Fed drafting)) (v : Value) → Deep 64 v → Deep 64 (tree drafting v fs)
+tree-deep : (fs : List (Fed plain-machine)) (v : Value) → Deep 64 v → Deep 64 (tree plain-machine v fs)
 tree-deep [] v n = n
 tree-deep (f ∷ fs) v n = tree-deep fs _ (step-deep v (f .call) (f .ruling) n)
 
-pub nesting : (fs : List (Fed drafting)) → Deep 64 (tree drafting null fs)
+pub nesting : (fs : List (Fed plain-machine)) → Deep 64 (tree plain-machine null fs)
 nesting fs = tree-deep fs null tt

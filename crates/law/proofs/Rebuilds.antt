@@ -17,9 +17,8 @@ use Rattle.tree.proofs.Count.{within-le, within-in, within-from}
 use Rattle.tree.proofs.Shapes.{row-fits, row-apart, slot-in, slot-apart, slot-head}
 use Rattle.tree.proofs.Frame.{slot-within}
 use Rattle.tree.proofs.Context.{change-here, change-else, reached}
-use Rattle.tree.proofs.Inits.{beyond}
 use Rattle.tree.proofs.Relocate.{open-object, close-object}
-use Rattle.tree.proofs.Replace.{once-parts, slot-outer, outer-inside}
+use Rattle.tree.proofs.Replace.{once-parts, slot-outer, outer-inside, beyond}
 use Rattle.tree.proofs.Loop.{moving-start, moving-end}
 use Rattle.table.specs.Placing.{Room, Outcome, got, no-space}
 use Rattle.table.specs.Laws.{Got}

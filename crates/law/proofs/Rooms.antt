@@ -29,12 +29,12 @@ after-moves l sh s t sh′ r H =
     after-each (rows sh) _ r H
     (λ i r₁ H₁. after-each (pointers sh) _ r₁ H₁ (λ j r₂ H₂. after-moved (l .seg) (l .pos + slot sh i j) s (t + slot sh′ i j) r₂ H₂))
 
-after-rebuilds : (H : Memory) (g w : ℕ) (u : Value) (sh′ : Shape) (r : Room) → After r (rebuilds H g w u sh′ r)
-after-rebuilds H g w null sh′ r = after-got r _
-after-rebuilds H g w (object sh dat kid) sh′ r =
+after-rebuilds : (H : Memory) (g w : ℕ) (l : Landing) (u : Value) (sh′ : Shape) (r : Room) → After r (rebuilds H g w l u sh′ r)
+after-rebuilds H g w l null sh′ r = after-got r _
+after-rebuilds H g w l (object sh dat kid) sh′ r =
     after-then r (place-shape r g w sh′) _ (after-shape r g w sh′)
     (λ r₁ p.
-    after-then r₁ _ _ (after-moves (land H g w) sh (p .0) (p .1) sh′ r₁ _) (λ r₂ N. after-got r₂ _))
+    after-then r₁ _ _ (after-moves l sh (p .0) (p .1) sh′ r₁ _) (λ r₂ N. after-got r₂ _))
 
 after-makes : (H : Memory) (g w : ℕ) (u : Value) (m : Making) (r : Room) → After r (makes H g w u m r)
 after-makes H g w u keep r = after-got r _
@@ -43,7 +43,7 @@ after-makes H g w u (set i k x) r = after-got r _
 after-makes H g w u (new sh) r = after-then r (place-shape r g w sh) _ (after-shape r g w sh) (λ r′ p. after-got r′ _)
 after-makes H g w u (spell bytes) r =
     after-then r (place-shape r g w (text-shape bytes)) _ (after-shape r g w (text-shape bytes)) (λ r′ p. after-got r′ _)
-after-makes H g w u (rebuild sh) r = after-rebuilds H g w u sh r
+after-makes H g w u (rebuild sh) r = after-rebuilds H g w (land H g w) u sh r
 
 pub after-call : (H : Memory) (v : Value) (r : Room) (c : Call) → After r (call-outcome H v r c)
 unfolding call-outcome

@@ -13,7 +13,7 @@ use Rattle.table.proofs.Tables.{append-none, drop-front, capacities-length, cap
 use Rattle.law.specs.Calls.{Edit, init-struct, init-list, init-rows, get-struct, get-rows, text, clear, write, Call, Answer, Refusal}
 use Rattle.law.specs.Machine.{Verdict, fine, wrong, judge, judged, reply, effect}
 use Rattle.law.specs.Exact.{Written, call-outcome}
-use Rattle.law.specs.Law.{State, memory, Meaning, Granted, zero-segments, met-in, Reply, told, Turned-down, Accepted, Crowded, Placing, Lawful}
+use Rattle.law.specs.Law.{Source, State, memory, Meaning, Granted, zero-segments, met-in, Reply, told, Turned-down, Accepted, Crowded, Placing, Lawful}
 use Rattle.law.specs.Drafts.{Tables-stand}
 use Rattle.law.proofs.Rooms.{after-call}
 
@@ -55,59 +55,60 @@ accepted-no-refusal (text bytes) u h = h
 accepted-no-refusal clear u h = h
 accepted-no-refusal (write k code i x) u h = h
 
-pub granted-first : (from to : Meaning) (ms cs : List ℕ) → Granted from ms cs to → to .first-offers ≡ from .first-offers
-granted-first from to [] [] h = h .1
-granted-first from to [] (c ∷ cs) h = absurd h
-granted-first from to (m ∷ ms) [] h = absurd h
-granted-first from to (m ∷ ms) (c ∷ cs) h = granted-first (h .1 .0) to ms cs (h .1 .4) ∙ h .1 .3
+module _ {X : Type 0} (S : Source X) where
+  pub granted-first : (from to : Meaning) (ms cs : List ℕ) → Granted S from ms cs to → to .first-offers ≡ from .first-offers
+  granted-first from to [] [] h = h .2
+  granted-first from to [] (c ∷ cs) h = absurd h
+  granted-first from to (m ∷ ms) [] h = absurd h
+  granted-first from to (m ∷ ms) (c ∷ cs) h = granted-first (S (h .1 .0)) to ms cs (h .1 .4) ∙ h .1 .3
 
--- ## By what the judge says and placing gives
+  -- ## By what the judge says and placing gives
 
-module _ (s : State) (v : Value) (c : Call) (met : List ℕ) (y : Reply) (s′ : State) where
-  abbrev start : Room
-  start = room (s .table) met
+  module _ (s : State) (v : Value) (c : Call) (met : List ℕ) (y : Reply) (s′ : State) where
+    abbrev start : Room
+    start = room (s .table) met
 
-  kept-by : (d : Verdict) (o : Outcome Written) → After start o → Placing s v c met y s′ d o → capacities (s′ .table) ≡ capacities (s .table) ++ met
-  unfolding After
-  kept-by (wrong a) o h p = rw (p .same, p .no-grant) (sym (append-none _))
-  kept-by fine (got r w) h p = rw (p .table-is) (sym (append-none _) ∙ ap (λ l. capacities (r .table) ++ l) (sym (p .all-used)) ∙ h .capacities-same)
-  kept-by fine (no-space r m) h p =
-      rw (p .table-is) (capacities-append (s .table) _ ∙ ap (λ l. capacities (s .table) ++ l) (capacities-fresh met))
+    kept-by : (d : Verdict) (o : Outcome Written) → After start o → Placing S s v c met y s′ d o → capacities (s′ .table) ≡ capacities (s .table) ++ met
+    unfolding After
+    kept-by (wrong a) o h p = rw (p .same, p .no-grant) (sym (append-none _))
+    kept-by fine (got r w) h p = rw (p .table-is) (sym (append-none _) ∙ ap (λ l. capacities (r .table) ++ l) (sym (p .all-used)) ∙ h .capacities-same)
+    kept-by fine (no-space r m) h p =
+        rw (p .back .table-is) (capacities-append (s .table) _ ∙ ap (λ l. capacities (s .table) ++ l) (capacities-fresh met))
 
-  grow-by : (d : Verdict) (o : Outcome Written) → After start o → Placing s v c met y s′ d o → (g : ℕ) → allocated-in (s .table) g ≤ allocated-in (s′ .table) g
-  unfolding After
-  grow-by (wrong a) o h p g = rw (p .same) (omega arith)
-  grow-by fine (got r w) h p g = rw (p .table-is) (h .grown g)
-  grow-by fine (no-space r m) h p g = rw (p .table-is) (append-more (s .table) _ g)
+    grow-by : (d : Verdict) (o : Outcome Written) → After start o → Placing S s v c met y s′ d o → (g : ℕ) → allocated-in (s .table) g ≤ allocated-in (s′ .table) g
+    unfolding After
+    grow-by (wrong a) o h p g = rw (p .same) (omega arith)
+    grow-by fine (got r w) h p g = rw (p .table-is) (h .grown g)
+    grow-by fine (no-space r m) h p g = rw (p .back .table-is) (append-more (s .table) _ g)
 
-  refuse-by : (d : Verdict) (o : Outcome Written) → y .says ≡ judged v c (told (y .says)) d .0 → Placing s v c met y s′ d o → Refusal (y .says) →
-      (memory s′ ≡ memory s) × ((g : ℕ) → allocated-in (s′ .table) g ≡ allocated-in (s .table) g)
-  refuse-by (wrong a) o e p q = (ap memory (p .same), λ g. ap (λ t. allocated-in (t .table) g) (p .same))
-  refuse-by fine (got r w) e p q =
-      let f : y .says ≡ judged v c 0 fine .0 = subst (λ b. y .says ≡ judged v c b fine .0) (p .untold) e in
-      absurd (accepted-no-refusal (c .edit) (effect (c .edit) (value-at v (c .path))) (subst Refusal f q))
-  refuse-by fine (no-space r m) e p q =
-      (ap word (p .segments-are) ∙ same-memory (s .source .segments) met, λ g. rw (p .table-is) (append-fresh (s .table) met g))
+    refuse-by : (d : Verdict) (o : Outcome Written) → y .says ≡ judged v c (told (y .says)) d .0 → Placing S s v c met y s′ d o → Refusal (y .says) →
+        (memory s′ ≡ memory s) × ((g : ℕ) → allocated-in (s′ .table) g ≡ allocated-in (s .table) g)
+    refuse-by (wrong a) o e p q = (ap memory (p .same), λ g. ap (λ t. allocated-in (t .table) g) (p .same))
+    refuse-by fine (got r w) e p q =
+        let f : y .says ≡ judged v c 0 fine .0 = subst (λ b. y .says ≡ judged v c b fine .0) (p .untold) e in
+        absurd (accepted-no-refusal (c .edit) (effect (c .edit) (value-at v (c .path))) (subst Refusal f q))
+    refuse-by fine (no-space r m) e p q =
+        (ap word (p .back .segments-are) ∙ same-memory (s .source .segments) met, λ g. rw (p .back .table-is) (append-fresh (s .table) met g))
 
-  first-by : (d : Verdict) (o : Outcome Written) → Placing s v c met y s′ d o → s′ .source .first-offers ≡ s .source .first-offers
-  first-by (wrong a) o p = ap (λ t. t .source .first-offers) (p .same)
-  first-by fine (got r w) p = granted-first (s .source) (s′ .source) (r .asked) met (p .granted)
-  first-by fine (no-space r m) p = granted-first (s .source) (s′ .source) (r .asked) met (p .granted)
+    first-by : (d : Verdict) (o : Outcome Written) → Placing S s v c met y s′ d o → s′ .source .first-offers ≡ s .source .first-offers
+    first-by (wrong a) o p = ap (λ t. t .source .first-offers) (p .same)
+    first-by fine (got r w) p = granted-first (s .source) (s′ .source) (r .asked) met (p .granted)
+    first-by fine (no-space r m) p = granted-first (s .source) (s′ .source) (r .asked) met (p .back .granted)
 
-met-by : (s s′ : State) (met : List ℕ) → capacities (s′ .table) ≡ capacities (s .table) ++ met → met ≡ met-in s s′
-met-by s s′ met e = rw (e, ← capacities-length (s .table)) (sym (drop-front (capacities (s .table)) met))
+  met-by : (s s′ : State) (met : List ℕ) → capacities (s′ .table) ≡ capacities (s .table) ++ met → met ≡ met-in s s′
+  met-by s s′ met e = rw (e, ← capacities-length (s .table)) (sym (drop-front (capacities (s .table)) met))
 
-kept : (s : State) (v : Value) (c : Call) (met : List ℕ) (y : Reply) (s′ : State) → Lawful s v c met y s′ → capacities (s′ .table) ≡ capacities (s .table) ++ met
-kept s v c met y s′ h = kept-by s v c met y s′ (judge v c) _ (after-call (memory s) v (room (s .table) met) c) (h .placing)
+  kept : (s : State) (v : Value) (c : Call) (met : List ℕ) (y : Reply) (s′ : State) → Lawful S s v c met y s′ → capacities (s′ .table) ≡ capacities (s .table) ++ met
+  kept s v c met y s′ h = kept-by s v c met y s′ (judge v c) _ (after-call (memory s) v (room (s .table) met) c) (h .placing)
 
-pub first-kept : (s : State) (v : Value) (c : Call) (met : List ℕ) (y : Reply) (s′ : State) → Lawful s v c met y s′ →
-    s′ .source .first-offers ≡ s .source .first-offers
-first-kept s v c met y s′ h = first-by s v c met y s′ (judge v c) _ (h .placing)
+  pub first-kept : (s : State) (v : Value) (c : Call) (met : List ℕ) (y : Reply) (s′ : State) → Lawful S s v c met y s′ →
+      s′ .source .first-offers ≡ s .source .first-offers
+  first-kept s v c met y s′ h = first-by s v c met y s′ (judge v c) _ (h .placing)
 
-pub tables : Tables-stand
-tables = record {
-  met-is = λ s v c met y s′ h. met-by s s′ met (kept s v c met y s′ h);
+pub tables : (X : Type 0) → Tables-stand X
+tables X = record {
+  met-is = λ S s v c met y s′ h. met-by S s s′ met (kept S s v c met y s′ h);
   capacities-kept = kept;
-  counts-grow = λ s v c met y s′ h. grow-by s v c met y s′ (judge v c) _ (after-call (memory s) v (room (s .table) met) c) (h .placing);
-  refusals-change-nothing = λ s v c met y s′ h. refuse-by s v c met y s′ (judge v c) _ (h .answer) (h .placing);
+  counts-grow = λ S s v c met y s′ h. grow-by S s v c met y s′ (judge v c) _ (after-call (memory s) v (room (s .table) met) c) (h .placing);
+  refusals-change-nothing = λ S s v c met y s′ h. refuse-by S s v c met y s′ (judge v c) _ (h .answer) (h .placing);
 }

@@ -22,7 +22,7 @@ use Rattle.law.proofs.Rooms.{after-moves}
 use Rattle.law.proofs.Children.{got-then}
 use Rattle.law.proofs.Makings.{Site, Turned, slot-allocated, turn-null, turn-number, turn-new, new-leads}
 use Rattle.law.proofs.Texts.{turn-text}
-use Rattle.law.proofs.Moving.{got-by, got-at, Inv, all-move}
+use Rattle.law.proofs.Moving.{got-by, got-at, P, all-move}
 use Rattle.law.proofs.Rebuilds.{Grows, begins, more-rows, slots-null, slots-inside, Hc, turn-larger, larger-leads}
 
 -- ## A value put back
@@ -70,6 +70,11 @@ then-got (no-space r₁ m) f r b e = let z : _≡_ {A = ℕ} 0 1 = cc in absurd 
 spot-pair : (g w : ℕ) (q : ℕ × ℕ) (sh : Shape) (a a′ : ℕ → ℕ) (o : Spot g w (q .0) (q .1) sh a a′) (l : Landing) → l ≡ o .l → q ≡ (l .seg, l .pos)
 spot-pair g w q sh a a′ o l e = sym (ap (λ k. (k .seg, k .pos)) e ∙ (λ i. (o .seg-is i, o .pos-is i)))
 
+-- the children move to where the landing says
+moves-there : (old : Landing) (sh : Shape) (q : ℕ × ℕ) (sh′ : Shape) (r r′ : Room) (M N : Memory) (l : Landing) → l .seg ≡ q .0 → l .pos ≡ q .1 →
+    moves old sh (q .0) (q .1) sh′ r M ≡ got r′ N → moves old sh (l .seg) (l .pos) sh′ r M ≡ got r′ N
+moves-there old sh q sh′ r r′ M N l e f h = rw (e, f) h
+
 -- ## Every making
 
 module _ (H : Memory) (v : Value) (p : List Step) (r : Room) (c : Site H (counts r) v p) where
@@ -98,38 +103,45 @@ module _ (H : Memory) (v : Value) (p : List Step) (r : Room) (c : Site H (counts
   at-spots : (sh : Shape) → Describable sh → Got (At-spot r g w sh) (place-shape r g w sh)
   at-spots sh d = spots r g w sh d (slot-allocated H (counts r) v p c)
 
+  -- once the new object is placed and all children have moved
+  moved-all : (sh : Shape) (dat : ℕ → ℕ → ℕ) (kid : ℕ → ℕ → Value) (sh′ : Shape) (is : value-at v p ≡ object sh dat kid) (grows : Grows sh sh′) (r₁ r₂ : Room) (q : ℕ × ℕ) (N : Memory)
+      (o : Spot (walk H 0 0 v p .0) (walk H 0 0 v p .1) (q .0) (q .1) sh′ (counts r) (counts r₁)) →
+      moves (land H (walk H 0 0 v p .0) (walk H 0 0 v p .1)) sh (o .l .seg) (o .l .pos) sh′ r₁ (Hc H (counts r) v p c sh dat kid is sh′ grows (q .0) (q .1) (counts r₁) o) ≡ got r₂ N →
+      Small r₂ → Turns (rebuild sh′) (object sh dat kid) r₂ (record { words = closed N (walk H 0 0 v p .0) (walk H 0 0 v p .1) (land H (walk H 0 0 v p .0) (walk H 0 0 v p .1)) sh (q .0) (q .1) sh′; pair = q })
+  moved-all sh dat kid sh′ is grows r₁ r₂ q N o e small =
+      let start : Memory = Hc H (counts r) v p c sh dat kid is sh′ grows (q .0) (q .1) (counts r₁) o in
+      let more : rows sh ≤ rows sh′ = more-rows H (counts r) v p c sh dat kid is sh′ grows (q .0) (q .1) (counts r₁) o in
+      let done =
+      got-at (P H v p sh (o .l) sh′ kid (more-rows H (counts r) v p c sh dat kid is sh′ grows (q .0) (q .1) (counts r₁) o) (grows .more-pointers) start (counts r₁) (rows sh) 0)
+      (moves (land H g w) sh (o .l .seg) (o .l .pos) sh′ r₁ start) r₂ N
+      (all-move H v p sh (o .l) sh′ kid (more-rows H (counts r) v p c sh dat kid is sh′ grows (q .0) (q .1) (counts r₁) o) (grows .more-pointers) start (counts r₁)
+      (λ i j hi hj. slots-null H (counts r) v p c sh dat kid is sh′ grows (q .0) (q .1) (counts r₁) o i j (omega (arith, more)) (omega (arith, grows .more-pointers)))
+      (λ i j hi hj. slots-inside H (counts r) v p c sh dat kid is sh′ grows (q .0) (q .1) (counts r₁) o i j (omega (arith, more)) (omega (arith, grows .more-pointers)))
+      r₁ start
+      (λ _. begins H (counts r) v p c sh dat kid is sh′ grows (q .0) (q .1) (counts r₁) o r₁ (λ y. refl)))
+      e small in
+      λ _. (
+        turn-larger H (counts r) v p c sh dat kid is sh′ grows (q .0) (q .1) (counts r₁) o r₂ N done,
+        spot-pair g w q sh′ (counts r) (counts r₁) o (land (closed N g w (land H g w) sh (q .0) (q .1) sh′) g w)
+            (larger-leads H (counts r) v p c sh dat kid is sh′ grows (q .0) (q .1) (counts r₁) o r₂ N done),
+      )
+
   turn-rebuild : (sh : Shape) (dat : ℕ → ℕ → ℕ) (kid : ℕ → ℕ → Value) (sh′ : Shape) → value-at v p ≡ object sh dat kid → Grows sh sh′ → Describable sh′ →
-      Got (Turns (rebuild sh′) (object sh dat kid)) (rebuilds H (walk H 0 0 v p .0) (walk H 0 0 v p .1) (object sh dat kid) sh′ r)
+      Got (Turns (rebuild sh′) (object sh dat kid)) (rebuilds H (walk H 0 0 v p .0) (walk H 0 0 v p .1) (land H (walk H 0 0 v p .0) (walk H 0 0 v p .1)) (object sh dat kid) sh′ r)
   turn-rebuild sh dat kid sh′ is grows d =
       let old : Landing = land H g w in
-      got-by (Turns (rebuild sh′) (object sh dat kid)) (rebuilds H g w (object sh dat kid) sh′ r)
+      got-by (Turns (rebuild sh′) (object sh dat kid)) (rebuilds H g w (land H g w) (object sh dat kid) sh′ r)
       (λ r₂ x e small.
       let (r₁, q, e₁, f₁) = then-got (place-shape r g w sh′) _ r₂ x e in
       let start : Memory = copied H old sh (q .0) (q .1) sh′ (opened H g (q .0) (q .1) sh′) in
       let (r₃, N, e₂, f₂) = then-got (moves old sh (q .0) (q .1) sh′ r₁ start) _ r₂ x f₁ in
       let same-room : r₃ ≡ r₂ = cc in
       let is-x : record { words = closed N g w old sh (q .0) (q .1) sh′; pair = q } ≡ x = cc in
-      let small₃ : Small r₃ = subst Small (sym same-room) small in
-      let later : Later r₁ r₃ = got-later r₁ r₃ (moves old sh (q .0) (q .1) sh′ r₁ start) N (after-moves old sh (q .0) (q .1) sh′ r₁ start) e₂ in
-      let small₁ : Small r₁ = λ y. omega (arith, later .grown y, small₃ y) in
+      let e₃ : moves old sh (q .0) (q .1) sh′ r₁ start ≡ got r₂ N = subst (λ z. moves old sh (q .0) (q .1) sh′ r₁ start ≡ got z N) same-room e₂ in
+      let later : Later r₁ r₂ = got-later r₁ r₂ (moves old sh (q .0) (q .1) sh′ r₁ start) N (after-moves old sh (q .0) (q .1) sh′ r₁ start) e₃ in
+      let small₁ : Small r₁ = λ y. omega (arith, later .grown y, small y) in
       let o : Spot g w (q .0) (q .1) sh′ (counts r) (counts r₁) = got-at (At-spot r g w sh′) (place-shape r g w sh′) r₁ q (at-spots sh′ d) e₁ small₁ in
-      let e₃ : moves old sh (o .l .seg) (o .l .pos) sh′ r₁ start ≡ got r₃ N =
-      subst (λ z. moves old sh (o .l .seg) z sh′ r₁ start ≡ got r₃ N) (sym (o .pos-is))
-      (subst (λ z. moves old sh z (q .1) sh′ r₁ start ≡ got r₃ N) (sym (o .seg-is)) e₂) in
-      let done =
-      got-at _ (moves old sh (o .l .seg) (o .l .pos) sh′ r₁ start) r₃ N
-      (all-move H v p sh (o .l) sh′ kid
-      (more-rows H (counts r) v p c sh dat kid is sh′ grows (q .0) (q .1) (counts r₁) o) (grows .more-pointers) start (counts r₁)
-      (λ i j hi hj. slots-null H (counts r) v p c sh dat kid is sh′ grows (q .0) (q .1) (counts r₁) o i j (omega (arith, grows .rows-same)) (omega (arith, grows .more-pointers)))
-      (λ i j hi hj. slots-inside H (counts r) v p c sh dat kid is sh′ grows (q .0) (q .1) (counts r₁) o i j (omega (arith, grows .rows-same)) (omega (arith, grows .more-pointers)))
-      r₁ start
-      (λ _. begins H (counts r) v p c sh dat kid is sh′ grows (q .0) (q .1) (counts r₁) o r₁ (λ y. refl)))
-      e₃ small₃ in
-      subst (λ z. Turned H (z .words) (counts r₂) v p (object sh′ dat kid) × (z .pair ≡ (land (z .words) g w .seg, land (z .words) g w .pos))) is-x (
-        subst (λ z. Turned H (closed N g w old sh (q .0) (q .1) sh′) (counts z) v p (object sh′ dat kid)) same-room
-            (turn-larger H (counts r) v p c sh dat kid is sh′ grows (q .0) (q .1) (counts r₁) o r₃ N done),
-        spot-pair g w q sh′ (counts r) (counts r₁) o _ (larger-leads H (counts r) v p c sh dat kid is sh′ grows (q .0) (q .1) (counts r₁) o r₃ N done),
-      ))
+      subst (λ z. Turns (rebuild sh′) (object sh dat kid) r₂ z) is-x (moved-all sh dat kid sh′ is grows r₁ r₂ q N o (moves-there old sh q sh′ r₁ r₂ start N (o .l) (o .seg-is) (o .pos-is) e₃) small) small)
 
   pub turns : (m : Making) (u : Value) → value-at v p ≡ u → Fits-making m u →
       Got (Turns m u) (makes H (walk H 0 0 v p .0) (walk H 0 0 v p .1) u m r)

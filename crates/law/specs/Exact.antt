@@ -123,14 +123,14 @@ pub record Written : Type 0 where
   pub words : Memory
   pub pair : ℕ × ℕ
 
--- the slot (g, w) shows u
-abbrev pub rebuilds : Memory → (g w : ℕ) → Value → Shape → Room → Outcome Written
-rebuilds H g w null sh′ r = got r (record { words = H; pair = (0, 0) })
-rebuilds H g w (object sh dat kid) sh′ r =
+-- the slot (g, w) shows u, whose object lies by l
+abbrev pub rebuilds : Memory → (g w : ℕ) → (l : Landing) → Value → Shape → Room → Outcome Written
+rebuilds H g w l null sh′ r = got r (record { words = H; pair = (0, 0) })
+rebuilds H g w l (object sh dat kid) sh′ r =
     then (place-shape r g w sh′)
     (λ r₁ p.
-    then (moves (land H g w) sh (p .0) (p .1) sh′ r₁ (copied H (land H g w) sh (p .0) (p .1) sh′ (opened H g (p .0) (p .1) sh′)))
-    (λ r₂ N. got r₂ (record { words = closed N g w (land H g w) sh (p .0) (p .1) sh′; pair = p })))
+    then (moves l sh (p .0) (p .1) sh′ r₁ (copied H l sh (p .0) (p .1) sh′ (opened H g (p .0) (p .1) sh′)))
+    (λ r₂ N. got r₂ (record { words = closed N g w l sh (p .0) (p .1) sh′; pair = p })))
 
 abbrev pub sets : Memory → (g w : ℕ) → Value → (i k x : ℕ) → Memory
 sets H g w null i k x = H
@@ -149,7 +149,7 @@ makes H g w u (new sh) r =
 makes H g w u (spell bytes) r =
     then (place-shape r g w (text-shape bytes))
     (λ r′ p. got r′ (record { words = spelled (placed H g w u (p .0) (p .1) (text-shape bytes)) (p .0) (p .1) bytes; pair = p }))
-makes H g w u (rebuild sh) r = rebuilds H g w u sh r
+makes H g w u (rebuild sh) r = rebuilds H g w (land H g w) u sh r
 
 -- What comes of a call that is not refused by the rulings 1 to 10, where the words H show the tree v: the root word is allocated if
 -- there is none, and then the edit is made at its place.

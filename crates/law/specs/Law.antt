@@ -35,6 +35,10 @@ pub record Meaning : Type 0 where
 abbrev pub Offered : Offers → Type 0
 Offered o = (m c : ℕ) → o m ≡ Some c → (0 < m) × (m ≤ c) × (c < 2 ^ 29)
 
+-- A type of sources: what its values mean.
+abbrev pub Source : Type 0 → Type 0
+Source X = X → Meaning
+
 -- a draft: its source and its table
 pub record State : Type 0 where
   pub source : Meaning
@@ -47,7 +51,8 @@ abbrev pub lengths : Meaning → List ℕ
 lengths m = map length (m .segments)
 
 -- table and source fit together
-pub record Stands (s : State) : Type 0 where
+pub record Stands {X : Type 0} (S : Source X) (s : State) : Type 0 where
+  pub valued : (x : X) × (S x ≡ s .source)
   pub sizes-match : lengths (s .source) ≡ capacities (s .table)
   pub at-most : length (s .table) ≤ 64
   pub bounded : Bounded (s .table)
@@ -61,8 +66,8 @@ pub record Bare (H : Memory) (a : ℕ → ℕ) (v : Value) : Type 0 where
   pub zeros : (g w : ℕ) → H g w ≡ 0
 
 -- The state is sound, and its words are the tree v.
-pub record Holds (s : State) (v : Value) : Type 0 where
-  pub stands : Stands s
+pub record Holds {X : Type 0} (S : Source X) (s : State) (v : Value) : Type 0 where
+  pub stands : Stands S s
   pub laid : Well-laid (memory s) (allocated-in (s .table)) v ⊎ Bare (memory s) (allocated-in (s .table)) v
   pub nested : Deep 64 v
 
@@ -99,14 +104,14 @@ next v c y = step v c (told (y .says)) .1
 -- ## Grants
 
 -- From the source `from`, grants of the minima were answered by the capacities, one after the other, and the offers in the end are
--- those of `to`. Each capacity is what a source offers that has the segments granted so far and the same first offers.
-abbrev pub Granted : (from : Meaning) → (minima capacities : List ℕ) → (to : Meaning) → Type 0
-Granted from [] [] to = (to .offers ≡ from .offers) × (to .first-offers ≡ from .first-offers)
-Granted from [] (c ∷ cs) to = ⊥
-Granted from (m ∷ ms) [] to = ⊥
-Granted from (m ∷ ms) (c ∷ cs) to =
+-- those of `to`. Each capacity is what a source of the type offers that has the segments granted so far and the same first offers.
+abbrev pub Granted : {X : Type 0} → Source X → (from : Meaning) → (minima capacities : List ℕ) → (to : Meaning) → Type 0
+Granted {X} S from [] [] to = (lengths to ≡ lengths from) × (to .offers ≡ from .offers) × (to .first-offers ≡ from .first-offers)
+Granted {X} S from [] (c ∷ cs) to = ⊥
+Granted {X} S from (m ∷ ms) [] to = ⊥
+Granted {X} S from (m ∷ ms) (c ∷ cs) to =
     (from .offers m ≡ Some c) ×
-    ((on : Meaning) × (lengths on ≡ lengths from ++ (c ∷ [])) × Offered (on .offers) × (on .first-offers ≡ from .first-offers) × Granted on ms cs to)
+    ((on : X) × (lengths (S on) ≡ lengths from ++ (c ∷ [])) × Offered (S on .offers) × (S on .first-offers ≡ from .first-offers) × Granted S (S on) ms cs to)
 
 abbrev pub zero-segments : List ℕ → List (List ℕ)
 zero-segments [] = []
@@ -129,41 +134,46 @@ pub record Turned-down (s : State) (met : List ℕ) (s′ : State) : Type 0 wher
   pub same : s′ ≡ s
 
 -- accepted: room was found, and r is what it left; the words are exactly those of the definition
-pub record Accepted (s : State) (v : Value) (c : Call) (met : List ℕ) (y : Reply) (s′ : State) (r : Room) (written : Written) : Type 0 where
+pub record Accepted {X : Type 0} (S : Source X) (s : State) (v : Value) (c : Call) (met : List ℕ) (y : Reply) (s′ : State) (r : Room) (written : Written) : Type 0 where
   pub untold : told (y .says) ≡ 0
   pub all-used : r .coming ≡ []
-  pub granted : Granted (s .source) (r .asked) met (s′ .source)
+  pub granted : Granted S (s .source) (r .asked) met (s′ .source)
   pub table-is : s′ .table ≡ r .table
   pub words-are : memory s′ ≡ written .words
   pub leads : Leads (y .says) (y .pair) (written .pair) (memory s′) (walk (memory s′) 0 0 (next v c y) (c .path))
 
--- ruling 11: a segment for the minimum was needed, and there was none; segments granted on the way stay, empty
-pub record Crowded (s : State) (met : List ℕ) (y : Reply) (s′ : State) (r : Room) (minimum : ℕ) : Type 0 where
-  pub is-eleven : told (y .says) ≡ 11
-  pub minimum-is : y .minimum ≡ minimum
+-- refused on the way with the number n: all words are as before, and segments granted on the way stay, empty
+pub record Turned-back {X : Type 0} (S : Source X) (s : State) (met : List ℕ) (y : Reply) (s′ : State) (r : Room) (n : ℕ) : Type 0 where
+  pub number-is : told (y .says) ≡ n
   pub all-used : r .coming ≡ []
-  pub granted : Granted (s .source) (r .asked) met (s′ .source)
-  pub no-more : (length (s′ .table) ≡ 64) ⊎ (s′ .source .offers minimum ≡ None)
+  pub granted : Granted S (s .source) (r .asked) met (s′ .source)
   pub table-is : s′ .table ≡ s .table ++ all-fresh met
   pub segments-are : s′ .source .segments ≡ s .source .segments ++ zero-segments met
 
-abbrev pub Placing : State → Value → Call → List ℕ → Reply → State → Verdict → Outcome Written → Type 0
-Placing s v c met y s′ (wrong a) o = Turned-down s met s′
-Placing s v c met y s′ fine (got r w) = Accepted s v c met y s′ r w
-Placing s v c met y s′ fine (no-space r m) = Crowded s met y s′ r m
+-- ruling 11: a segment for the minimum was needed, and there was none
+pub record Crowded {X : Type 0} (S : Source X) (s : State) (met : List ℕ) (y : Reply) (s′ : State) (r : Room) (minimum : ℕ) : Type 0 where
+  pub back : Turned-back S s met y s′ r 11
+  pub minimum-is : y .minimum ≡ minimum
+  pub no-more : (length (s′ .table) ≡ 64) ⊎ (s′ .source .offers minimum ≡ None)
+
+abbrev pub Placing : {X : Type 0} → Source X → State → Value → Call → List ℕ → Reply → State → Verdict → Outcome Written → Type 0
+Placing S s v c met y s′ (wrong a) o = Turned-down s met s′
+Placing S s v c met y s′ fine (got r w) = Accepted S s v c met y s′ r w
+Placing S s v c met y s′ fine (no-space r m) = Crowded S s met y s′ r m
 
 -- From the state s, which holds v, the call c was granted segments of the capacities `met`, answered y and left s′.
-pub record Lawful (s : State) (v : Value) (c : Call) (met : List ℕ) (y : Reply) (s′ : State) : Type 0 where
+pub record Lawful {X : Type 0} (S : Source X) (s : State) (v : Value) (c : Call) (met : List ℕ) (y : Reply) (s′ : State) : Type 0 where
   pub typed : Typed (c .edit)
-  pub before : Holds s v
-  pub after : Holds s′ (next v c y)
+  pub before : Holds S s v
+  pub after : Holds S s′ (next v c y)
   pub answer : y .says ≡ step v c (told (y .says)) .0
-  pub placing : Placing s v c met y s′ (judge v c) (call-outcome (memory s) v (room (s .table) met) c)
+  pub placing : Placing S s v c met y s′ (judge v c) (call-outcome (memory s) v (room (s .table) met) c)
 
 -- ## A new draft
 
 -- its source has no segments, and its offers are the first ones
-pub record Begun (s : State) : Type 0 where
+pub record Begun {X : Type 0} (S : Source X) (s : State) : Type 0 where
+  pub valued : (x : X) × (S x ≡ s .source)
   pub no-segments : s .source .segments ≡ []
   pub no-table : s .table ≡ []
   pub offers-first : s .source .offers ≡ s .source .first-offers

@@ -7,3 +7,5 @@ pub mod Law
 pub mod Runs
 pub mod Drafts
 pub mod Enough
+pub mod Cases
+pub mod Excluded

@@ -11,6 +11,7 @@ use Rattle.std.proofs.shelf.Tests.{leb-true, leb-false, ltb-true}
 use Rattle.table.specs.Segments.{Segment, fresh, more, Table, allocated-in, left-in, capacities, take, first-fit}
 use Rattle.table.specs.Placing.{Room, Outcome, got, no-space, then, each, in-segment, grant, anywhere, place, pad, root}
 use Rattle.table.specs.Laws.{Later, After, Got, Fresh, Placed, Padded, Allocations-stand}
+use Rattle.table.proofs.Extending.{extends-anywhere, extends-place, extends-pad, extends-root}
 use Rattle.table.proofs.Tables.{append-assoc′, capacities-append, capacities-take, take-more, take-here, append-more, append-here, past-none, first-fits}
 
 -- ## Rooms
@@ -183,4 +184,8 @@ allocations = record {
   anywhere-fresh = λ r n. got-more (Found r n) (λ r′ p. Fresh r r′ (p .0) (p .1) n) (anywhere r n) (λ r′ p h. h .0) (found-anywhere r n);
   place-fresh = fresh-place;
   pad-fresh = fresh-pad;
+  anywhere-extends = λ r r′ n p ds. extends-anywhere n r r′ p ds;
+  place-extends = λ r r′ g n p ds. extends-place g n r r′ p ds;
+  pad-extends = λ r r′ g p ds. extends-pad g r r′ p ds;
+  root-extends = extends-root;
 }

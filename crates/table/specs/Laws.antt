@@ -4,7 +4,7 @@ use mathlib.Core.Logic.{_⊎_}
 use mathlib.Core.List.{List, [], _∷_, _++_}
 use Prim.Native.Nat.{ℕ, _+_, _≤_, _<_}
 use Rattle.table.specs.Segments.{allocated-in, capacities}
-use Rattle.table.specs.Placing.{Room, Outcome, got, no-space, anywhere, place, pad, root}
+use Rattle.table.specs.Placing.{Room, extend, Outcome, got, no-space, anywhere, place, pad, root}
 
 -- r′ comes of r by allocations: old capacities stay, new ones are those that were to come, and counts never fall
 pub record Later (r r′ : Room) : Type 0 where
@@ -46,3 +46,12 @@ pub record Allocations-stand : Type 0 where
   pub anywhere-fresh : (r : Room) (n : ℕ) → Got (λ r′ p. Fresh r r′ (p .0) (p .1) n) (anywhere r n)
   pub place-fresh : (r : Room) (g n : ℕ) → 1 ≤ allocated-in (r .table) g → Got (Placed r g n) (place r g n)
   pub pad-fresh : (r : Room) (g : ℕ) → 1 ≤ allocated-in (r .table) g → Got (Padded r g) (pad r g)
+  -- what is got stays got where more segments are to come
+  pub anywhere-extends : (r r′ : Room) (n : ℕ) (p : ℕ × ℕ) (more-coming : List ℕ) → anywhere r n ≡ got r′ p →
+      anywhere (extend r more-coming) n ≡ got (extend r′ more-coming) p
+  pub place-extends : (r r′ : Room) (g n : ℕ) (p : ℕ × ℕ) (more-coming : List ℕ) → place r g n ≡ got r′ p →
+      place (extend r more-coming) g n ≡ got (extend r′ more-coming) p
+  pub pad-extends : (r r′ : Room) (g : ℕ) (p : ℕ × ℕ) (more-coming : List ℕ) → pad r g ≡ got r′ p →
+      pad (extend r more-coming) g ≡ got (extend r′ more-coming) p
+  pub root-extends : (r r′ : Room) (p : ℕ × ℕ) (more-coming : List ℕ) → root r ≡ got r′ p →
+      root (extend r more-coming) ≡ got (extend r′ more-coming) p

@@ -18,6 +18,10 @@ pub record Room : Type 0 where
 abbrev pub room : Table → (met : List ℕ) → Room
 room t met = record { table = t; coming = met; asked = [] }
 
+-- with more segments to come
+abbrev pub extend : Room → List ℕ → Room
+extend r more-coming = record { table = r .table; coming = r .coming ++ more-coming; asked = r .asked }
+
 -- What comes of something that allocates: the room after it with a result, or that nothing is granted for the minimum.
 pub data Outcome (A : Type 0) : Type 0 where
   got : Room → A → Outcome A

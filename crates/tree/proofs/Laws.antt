@@ -1,9 +1,11 @@
+-- All laws together.
 use mathlib.Core.Path.{_≡_, refl}
 use Prim.Native.Nat.{ℕ, _+_, _≤_, _<_}
 use native.Mathlib.Omega.{arith}
-use Rattle.tree.specs.Value.{Value, null}
+use Rattle.tree.specs.Value.{Value, null, object}
 use Rattle.tree.specs.Shows.{span, Memory, Sound, within}
 use Rattle.tree.specs.Laws.{Laws}
+use Rattle.tree.specs.Zeroing.{Zeroing-walks}
 use Rattle.tree.proofs.Count.{within-le}
 use Rattle.tree.proofs.Edits as edits
 use Rattle.tree.proofs.Blank as blanks
@@ -31,10 +33,20 @@ laws = record {
   moves-empty = λ H H′ a a′ g w G W sh dat kid f s k h e. transfers.transfer-empty H H′ a a′ g w G W sh dat kid f s k h e;
   pads-once = λ H H′ a a′ g w G W q sh dat kid f n s i e k. transfers.transfer-pad H H′ a a′ g w G W q sh dat kid f n s i e k;
   pads-twice = λ H H′ a a′ g w G W s q sh dat kid f n m i e k j. transfers.transfer-double H H′ a a′ g w G W s q sh dat kid f n m i e k j;
-  wipes = λ H H₁ H′ g w u ok once z same. wipe.wipe-cleared H g w u H₁ H′ ok once z same;
   opens = λ H H′ a a′ v p sh dat kid l sh′ go ok e c. relocate.open-object H a v p sh dat kid go (sound H a v ok) e l sh′ H′ a′ c;
   transfers = λ H H′ a a′ base r p at kid i j G W s q n ok hi hj held unused c. moves.transfer H H′ a a′ base r p at kid ok i j hi hj G W s q n held unused c;
   closes = λ H H₁ H′ a a′ v p sh dat kid l sh′ go ok e laid c. well-laid H′ a′ _ (relocate.close-object H a v p sh dat kid go (sound H a v ok) e l sh′ H₁ H′ a′ laid c);
   one-value = λ H a b v u g w s t. decoding.unique H a b v u g w s t;
   decoded = λ H a v d ok. decoding.decodes 64 H a v 0 0 d (ok .shown);
+}
+
+pub zeroing : Zeroing-walks
+zeroing = record {
+  starts = λ H₀ g w sh dat kid. wipe.stack-first H₀ g w (object sh dat kid) H₀ sh dat kid refl (wipe.wipe-start H₀ g w (object sh dat kid));
+  passes = λ H₀ g w u H b c sh kid i j fs hi hj e. wipe.stack-null H₀ g w u H b c sh kid i fs j hi hj e;
+  descends = λ H₀ g w u H b c sh kid i j fs sh′ dat′ kid′ hi hj e. wipe.stack-down H₀ g w u H b c sh kid i fs j sh′ dat′ kid′ hi hj e;
+  still-shows = λ H₀ g w u H b c sh kid i j fs a hi hj ok s. wipe.stack-shows H₀ g w u H b c sh kid i fs a j hi hj ok s;
+  turns = λ H₀ g w u H b c sh kid i fs. wipe.stack-row H₀ g w u H b c sh kid i fs;
+  ascends = λ H₀ g w u H H′ b c sh kid fs once zero same. wipe.stack-up H₀ g w u H b c sh kid 0 fs H′ once zero same;
+  ends = λ H H₁ H′ g w u ok once z same. wipe.wipe-cleared H g w u H₁ H′ ok once z same;
 }

@@ -1,3 +1,4 @@
+-- Lemmas of this crate.
 pub mod PointerParts
 pub mod Count
 pub mod Shapes
@@ -20,5 +21,4 @@ pub mod Wipe
 pub mod Loop
 pub mod Numbers
 pub mod Paths
-pub mod Inits
 pub mod Words

@@ -157,3 +157,19 @@ module _ (H H′ : Memory) (a a′ : ℕ → ℕ) (v : Value) (p : List Step) (g
     once = λ x y. omega (arith, once x y, put-reach H H′ u p v 0 0 go (ok .once) e x y);
     clean = λ x y h. clean x y (omega (arith, h, put-reach H H′ u p v 0 0 go (ok .once) e x y));
   }
+
+-- words that are not allocated are zero
+pub beyond : (H : Memory) (a : ℕ → ℕ) (v : Value) → Sound H a v → (x y : ℕ) → a x ≤ y → H x y ≡ 0
+beyond H a v ok x y h =
+    ok .clean x y
+    (⊎-elim
+    (λ (c : 0 < within 0 0 1 x y + reach H 0 0 v x y). absurd (omega (arith, outer-inside H H a a v [] tt ok x y, used c)))
+    (λ (c : within 0 0 1 x y + reach H 0 0 v x y ≤ 0). omega arith)
+    (cases-lt 0 (within 0 0 1 x y + reach H 0 0 v x y)))
+  where
+    used : 0 < within 0 0 1 x y + reach H 0 0 v x y → y < a x
+    used c =
+        ⊎-elim
+        (λ (d : 0 < within 0 0 1 x y). outer-inside H H a a v [] tt ok x y (omega arith))
+        (λ (d : within 0 0 1 x y ≤ 0). reach-inside H a v 0 0 (ok .shown) x y (omega arith))
+        (cases-lt 0 (within 0 0 1 x y))

@@ -1,4 +1,4 @@
--- Where made pointer-words lead.
+-- Where made pointers lead.
 use mathlib.Core.Path.{_≡_, refl, sym, _∙_, ap, ap₂, subst}
 use mathlib.Core.Logic.{_≢_, _⊎_, inl, inr, ⊎-elim}
 use mathlib.Core.Bool.{Bool, true, false, cond}
@@ -68,7 +68,7 @@ pub paved-live : (H : Memory) (g w : ℕ) → Paved H g w → H g w ≢ 0
 unfolding Paved
 paved-live H g w p e = (rw e at p) refl
 
--- made pointer-words describe their shape
+-- made pointers describe their shape
 pub describes-struct : (p t dw pw z : ℕ) → dw < 65536 → Describes (struct-pointer p t dw pw) z (structure dw pw)
 unfolding Describes
 describes-struct p t dw pw z h = (omega arith, omega arith, omega arith)

@@ -1,4 +1,4 @@
--- What is proved of edits on words.
+-- What is proved of edits on words. Each law is said of any path: `walk` finds the slot at its end, and `value-at` the value there.
 use mathlib.Core.Path.{_≡_}
 use mathlib.Core.List.{List, [], _∷_}
 use Prim.Native.Nat.{ℕ, _+_, _^_, _≤_, _<_}
@@ -13,27 +13,40 @@ use Rattle.tree.specs.Extents.{Well-laid}
 use Rattle.tree.specs.Edits.{Cleared, Beside, Behind, Renumbered, Laid, Transferred, Steady, fixed, slot-at, Opened, Closed}
 
 pub record Laws : Type 0 where
-  -- the root word alone
+  -- ## What words show
+
+  -- a slot shows one value, and decoding finds it
+  pub one-value : (H : Memory) (a b : ℕ → ℕ) (v u : Value) (g w : ℕ) → Shows H a g w v → Shows H b g w u → v ≡ u
+  pub decoded : (H : Memory) (a : ℕ → ℕ) (v : Value) → Deep 64 v → Well-laid H a v → decode 64 H 0 0 ≡ v
+  -- ## Edits at a path
+
+  -- zero words with an allocated root word are the null tree
   pub begins : (H : Memory) (a : ℕ → ℕ) → 0 < a 0 → ((x y : ℕ) → H x y ≡ 0) → Well-laid H a null
   pub clears : (H H′ : Memory) (a : ℕ → ℕ) (v : Value) (p : List Step) → Goes v p → Well-laid H a v →
       Cleared H H′ (walk H 0 0 v p .0) (walk H 0 0 v p .1) (value-at v p) →
       Well-laid H′ a (put v p null)
-  pub inits-beside : (H H′ : Memory) (a a′ : ℕ → ℕ) (v : Value) (p : List Step) (t x : ℕ) (sh : Shape) → Goes v p → Well-laid H a v → value-at v p ≡ null →
+  -- a new object for a null slot, in the slot's segment and behind a landing pad
+  pub inits-beside : (H H′ : Memory) (a a′ : ℕ → ℕ) (v : Value) (p : List Step) (t x : ℕ) (sh : Shape) →
+      Goes v p → Well-laid H a v → value-at v p ≡ null →
       Beside H H′ a a′ (walk H 0 0 v p .0) (walk H 0 0 v p .1) t x sh →
       Well-laid H′ a′ (put v p (blank sh))
-  pub inits-behind : (H H′ : Memory) (a a′ : ℕ → ℕ) (v : Value) (p : List Step) (s q x : ℕ) (sh : Shape) → Goes v p → Well-laid H a v → value-at v p ≡ null →
+  pub inits-behind : (H H′ : Memory) (a a′ : ℕ → ℕ) (v : Value) (p : List Step) (s q x : ℕ) (sh : Shape) →
+      Goes v p → Well-laid H a v → value-at v p ≡ null →
       Behind H H′ a a′ (walk H 0 0 v p .0) (walk H 0 0 v p .1) s q x sh →
       Well-laid H′ a′ (put v p (blank sh))
+  -- the numbers of an object become others
   pub renumbers : (H H′ : Memory) (a : ℕ → ℕ) (v : Value) (p : List Step) (sh : Shape) (dat dat′ : ℕ → ℕ → ℕ) (kid : ℕ → ℕ → Value) →
       Goes v p → Well-laid H a v → value-at v p ≡ object sh dat kid →
       Renumbered H H′ a (walk H 0 0 v p .0) (walk H 0 0 v p .1) sh dat′ →
       Well-laid H′ a (put v p (object sh dat′ kid))
-  -- the number at place k of row i becomes x
+  -- the number at place k of row i becomes x, at every width, by one word
   pub writes : (H : Memory) (a : ℕ → ℕ) (v : Value) (p : List Step) (sh : Shape) (dat : ℕ → ℕ → ℕ) (kid : ℕ → ℕ → Value) (i k x : ℕ) →
       Goes v p → Well-laid H a v → value-at v p ≡ object sh dat kid → i < rows sh → k < places sh → Fits-place sh x → 1 ≤ place-bits sh →
       let l = land H (walk H 0 0 v p .0) (walk H 0 0 v p .1) in
-      Well-laid (change H (l .seg) (l .pos + place-word sh i k) (place-put sh (H (l .seg) (l .pos + place-word sh i k)) i x)) a (put v p (object sh (change dat i k x) kid))
-  -- the ways in which a child gets to a new slot
+      Well-laid (change H (l .seg) (l .pos + place-word sh i k) (place-put sh (H (l .seg) (l .pos + place-word sh i k)) i x)) a
+      (put v p (object sh (change dat i k x) kid))
+  -- ## The ways in which a child gets from the slot (g, w) to the slot (G, W); a null child has nothing to move
+
   pub copies-far : (H H′ : Memory) (a : ℕ → ℕ) (g w G W : ℕ) (sh : Shape) (dat : ℕ → ℕ → ℕ) (kid : ℕ → ℕ → Value) →
       Steady H H′ a a g w G W 0 0 0 (object sh dat kid) → way (H g w) ≢ direct → H′ G W ≡ H g w →
       Transferred H H′ a a g w G W 0 0 0 (object sh dat kid)
@@ -45,18 +58,18 @@ pub record Laws : Type 0 where
       Steady H H′ a a′ g w G W 0 0 0 (object sh dat kid) → ((x : ℕ) → a′ x < 2 ^ 29) →
       pointer-kind (H g w) ≡ 0 → high-half (H g w) ≡ 0 → H′ G W ≡ empty-struct →
       Transferred H H′ a a′ g w G W 0 0 0 (object sh dat kid)
+  -- over a pad in word q of its own segment
   pub pads-once : (H H′ : Memory) (a a′ : ℕ → ℕ) (g w G W q : ℕ) (sh : Shape) (dat : ℕ → ℕ → ℕ) (kid : ℕ → ℕ → Value) →
       Steady H H′ a a′ g w G W g q 1 (object sh dat kid) → pointer-kind (H g w) ≢ 2 → ((x : ℕ) → a′ x < 2 ^ 29) → q < a′ g →
       H′ G W ≡ single-far g q → H′ g q ≡ re-aimed (H g w) q (pointer-target w (H g w)) →
       Transferred H H′ a a′ g w G W g q 1 (object sh dat kid)
+  -- over two pad words from word q of segment s on
   pub pads-twice : (H H′ : Memory) (a a′ : ℕ → ℕ) (g w G W s q : ℕ) (sh : Shape) (dat : ℕ → ℕ → ℕ) (kid : ℕ → ℕ → Value) →
       Steady H H′ a a′ g w G W s q 2 (object sh dat kid) → pointer-kind (H g w) ≢ 2 → ((x : ℕ) → a′ x < 2 ^ 29) → q + 1 < a′ s →
       H′ G W ≡ double-far s q → H′ s q ≡ single-far g (pointer-target w (H g w)) → H′ s (q + 1) ≡ unaimed (H g w) →
       Transferred H H′ a a′ g w G W s q 2 (object sh dat kid)
-  -- zeroing, when nothing is left
-  pub wipes : (H H₁ H′ : Memory) (g w : ℕ) (u : Value) → Wiping H g w u H₁ (λ x y. 0) →
-      ((x y : ℕ) → within g w 1 x y + reach H g w u x y ≤ 1) →
-      H′ g w ≡ 0 → ((x y : ℕ) → (x ≡ g → y ≡ w → ⊥) → H′ x y ≡ H₁ x y) → Cleared H H′ g w u
+  -- ## An object is rebuilt in a larger shape: opened on new words, its children moved one by one, then closed
+
   pub opens : (H H′ : Memory) (a a′ : ℕ → ℕ) (v : Value) (p : List Step) (sh : Shape) (dat : ℕ → ℕ → ℕ) (kid : ℕ → ℕ → Value) (l : Landing) (sh′ : Shape) →
       Goes v p → Well-laid H a v → value-at v p ≡ object sh dat kid → Opened H H′ a a′ l sh′ →
       Laid H′ a′ (fixed H v p sh l sh′) (rows sh) (pointers sh) (slot-at (land H (walk H 0 0 v p .0) (walk H 0 0 v p .1)) sh) kid
@@ -70,6 +83,3 @@ pub record Laws : Type 0 where
       Laid H₁ a′ (fixed H v p sh l sh′) (rows sh) (pointers sh) (slot-at l sh′) kid →
       Closed H a v p sh dat l sh′ H₁ H′ a′ →
       Well-laid H′ a′ (put v p (object sh′ dat kid))
-  -- a slot shows one value, and decoding finds it
-  pub one-value : (H : Memory) (a b : ℕ → ℕ) (v u : Value) (g w : ℕ) → Shows H a g w v → Shows H b g w u → v ≡ u
-  pub decoded : (H : Memory) (a : ℕ → ℕ) (v : Value) → Deep 64 v → Well-laid H a v → decode 64 H 0 0 ≡ v

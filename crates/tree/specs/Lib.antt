@@ -1,3 +1,4 @@
+-- Values, what words show, extents, decoding, and what edits of words do.
 pub mod Value
 pub mod Shows
 pub mod Decode
@@ -5,6 +6,6 @@ pub mod Extents
 pub mod Edits
 pub mod Loops
 pub mod Numbers
-pub mod Growth
 pub mod Words
 pub mod Laws
+pub mod Zeroing

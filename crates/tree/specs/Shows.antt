@@ -117,7 +117,7 @@ unfoldable pub total : ℕ → (ℕ → ℕ) → ℕ
 total zero f = 0
 total (suc n) f = total n f + f n
 
--- the same over rows and pointer-words
+-- the same over rows and pointers
 abbrev pub totals : ℕ → ℕ → (ℕ → ℕ → ℕ) → ℕ
 totals r p f = total r (λ i. total p (f i))
 

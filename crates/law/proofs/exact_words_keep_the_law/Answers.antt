@@ -1,5 +1,6 @@
+-- For every edit.
 use Rattle.law.proofs.Enough.{exact}
 use Rattle.law.proofs.exact_words_keep_the_law.Needs as need
 
 pub returns : need.returns
-returns c = exact
+returns g c = exact _

@@ -1,3 +1,4 @@
+-- The laws of the layout.
 use Rattle.tree.proofs.Laws.{laws}
 use Rattle.tree.proofs.layout_stands.Needs as need
 

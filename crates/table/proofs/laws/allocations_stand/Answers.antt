@@ -1,3 +1,4 @@
+-- What holds of allocations.
 use Rattle.table.proofs.Allocations.{allocations}
 use Rattle.table.proofs.laws.allocations_stand.Needs as need
 
