@@ -1,0 +1,3 @@
+// The words of a script: decimal numbers, paths, hex and quoted text. Each reader's contract says what it accepts and what it makes of it.
+pub mod number;
+pub mod step;
