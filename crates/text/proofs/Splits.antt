@@ -10,10 +10,10 @@ use Rattle.text.specs.Numbers.{Digits}
 abbrev pub Lacks : ℕ → List ℕ → Type 0
 Lacks c xs = (i : ℕ) → i < length xs → getD xs i 0 ≡ c → ⊥
 
-rest-lacks : (c x : ℕ) (xs : List ℕ) → Lacks c (x ∷ xs) → Lacks c xs
+pub rest-lacks : (c x : ℕ) (xs : List ℕ) → Lacks c (x ∷ xs) → Lacks c xs
 rest-lacks c x xs h i l e = h (suc i) (omega arith) e
 
-first-lacks : (c x : ℕ) (xs : List ℕ) → Lacks c (x ∷ xs) → x ≡ c → ⊥
+pub first-lacks : (c x : ℕ) (xs : List ℕ) → Lacks c (x ∷ xs) → x ≡ c → ⊥
 first-lacks c x xs h e = h 0 (omega arith) e
 
 pub same-split : (c : ℕ) (xs ys us vs : List ℕ) → Lacks c xs → Lacks c us → xs ++ (c ∷ ys) ≡ us ++ (c ∷ vs) → (xs ≡ us) × (ys ≡ vs)

@@ -48,7 +48,7 @@ pub free-made : (bs ks rest es ps : List ℕ) (k e p : ℕ) → bs ≡ ks ++ (58
 free-made bs ks rest es ps k e p f g x y z = (ks, es, ps, f ∙ ap (λ l. ks ++ (58 ∷ l)) g, (x .0, x .1), (y .0, y .1), (z .0, z .1), cc (x .2, y .2, z .2))
 
 -- the first byte says which form a step has
-digit-first : (bs : List ℕ) (s : Step) → Free bs s → getD bs 0 0 ≤ 57
+pub digit-first : (bs : List ℕ) (s : Step) → Free bs s → getD bs 0 0 ≤ 57
 digit-first bs s (ls, fs, qs, g, a, b, c, q) = rw g (first ls (a .0 .0) (a .0 .1))
   where
     first : (xs : List ℕ) → 0 < length xs → ((i : ℕ) → i < length xs → (48 ≤ getD xs i 0) × (getD xs i 0 ≤ 57)) → getD (xs ++ (58 ∷ (fs ++ (58 ∷ qs)))) 0 0 ≤ 57
@@ -61,7 +61,7 @@ other-first c d bs xs ys e f = cc
 pub same-rest : (c : ℕ) (bs xs ys : List ℕ) → bs ≡ c ∷ xs → bs ≡ c ∷ ys → xs ≡ ys
 same-rest c bs xs ys e f = cc
 
-first-is : (c : ℕ) (bs xs : List ℕ) → bs ≡ c ∷ xs → getD bs 0 0 ≡ c
+pub first-is : (c : ℕ) (bs xs : List ℕ) → bs ≡ c ∷ xs → getD bs 0 0 ≡ c
 first-is c bs xs e = ap (λ l. getD l 0 0) e
 
 module _ (bs rest : List ℕ) (s : Step) where

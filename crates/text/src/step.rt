@@ -1,7 +1,8 @@
 // One step of a path, read and shown: `pN`, `eN`, `rIpN`, or any three numbers as `k:e:p`.
-ghost use Prim.Native.Nat.{_^_};
+ghost use mathlib.Core.Path.{_≡_};
 ghost use Rattle.std.specs.declared.option.Option.the-variants.{Some};
 ghost use Rattle.text.specs.Steps.{Pointer, Element, Row, Free, StepText, Exactly, shownStep};
+ghost use Rattle.text.specs.declared.step.PathFault.the-variants.{Memory};
 use crate::number::NumberFault;
 use crate::number::number_u32;
 use std::alloc::AllocError;
@@ -25,6 +26,22 @@ pub enum PathFault {
     Memory,
 }
 
+pub impl From<AllocError> for PathFault as PathFaultFromAlloc {
+    ghost converts = { λ _ r. r ≡ Memory };
+
+    fn from(_e: AllocError) -> PathFault {
+        PathFault::Memory
+    }
+}
+
+pub impl<T: Drop> From<Refused<T>> for PathFault as PathFaultFromRefused {
+    ghost converts = { λ _ r. r ≡ Memory };
+
+    fn from(_e: Refused<T>) -> PathFault {
+        PathFault::Memory
+    }
+}
+
 pub impl From<NumberFault> for PathFault as PathFaultFromNumber {
     fn from(e: NumberFault) -> PathFault {
         match e {
@@ -38,14 +55,22 @@ fn pointer_step(digits: &str) -> Result<Step, PathFault>
     ensures { λ r. ⌜ Exactly (Pointer (now (digits .entry))) r ⌝ }
 {
     let pointer = number_u32(digits)?;
-    Ok(Step { kind: 0, element: 0, pointer })
+    Ok(Step {
+        kind: 0,
+        element: 0,
+        pointer,
+    })
 }
 
 fn element_step(digits: &str) -> Result<Step, PathFault>
     ensures { λ r. ⌜ Exactly (Element (now (digits .entry))) r ⌝ }
 {
     let element = number_u32(digits)?;
-    Ok(Step { kind: 1, element, pointer: 0 })
+    Ok(Step {
+        kind: 1,
+        element,
+        pointer: 0,
+    })
 }
 
 fn row_step(word: &str) -> Result<Step, PathFault>
@@ -56,7 +81,11 @@ fn row_step(word: &str) -> Result<Step, PathFault>
     };
     let element = number_u32(row)?;
     let pointer = number_u32(place)?;
-    Ok(Step { kind: 2, element, pointer })
+    Ok(Step {
+        kind: 2,
+        element,
+        pointer,
+    })
 }
 
 fn free_step(word: &str) -> Result<Step, PathFault>
@@ -71,7 +100,11 @@ fn free_step(word: &str) -> Result<Step, PathFault>
     let kind = number_u32(first)?;
     let element = number_u32(second)?;
     let pointer = number_u32(third)?;
-    Ok(Step { kind, element, pointer })
+    Ok(Step {
+        kind,
+        element,
+        pointer,
+    })
 }
 
 pub fn read_step(word: &str) -> Result<Step, PathFault>
@@ -93,7 +126,11 @@ pub impl fmt::Display for Step as StepDisplay {
     ghost shown = { λ s. Some (shownStep s) };
 
     fn fmt<W: fmt::Write>(&self, f: &mut fmt::Formatter<W>) -> fmt::Result {
-        let Step { kind, element, pointer } = *self;
+        let Step {
+            kind,
+            element,
+            pointer,
+        } = *self;
         if kind == 0 && element == 0 {
             write!(f, "p{pointer}")
         } else if kind == 1 && pointer == 0 {

@@ -14,8 +14,8 @@ pub returns-then-is-empty : need.returns-then-is-empty
 returns-then-is-empty c =
     no-number _ _ (c .after-minus-digits .ensures)
     (elim (c .then-is-empty .came) [
-      then-is-empty·by·then-is-empty w ↦ λ n. omega (arith, n .0, true-eqb _ 0 (w .if-is-empty .ensures tt))
-    | then-is-empty·by·else-is-empty·then-not-all-digits w ↦ λ n. not-from-decides _ (w .all-digits .ensures) (w .if-not-all-digits .taken) (n .1)
+      | then-is-empty·by·then-is-empty w ↦ λ n. omega (arith, n .0, true-eqb _ 0 (w .if-is-empty .ensures tt))
+      | then-is-empty·by·else-is-empty·then-not-all-digits w ↦ λ n. not-from-decides _ (w .all-digits .ensures) (w .if-not-all-digits .taken) (n .1)
     ])
 
 pub returns-in-Ok : need.returns-in-Ok
