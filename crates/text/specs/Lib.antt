@@ -1,3 +1,5 @@
 pub mod Numbers
 pub mod Paths
+pub mod Quotes
 pub mod Steps
+pub mod Texts
