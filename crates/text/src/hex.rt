@@ -11,7 +11,7 @@ use std::alloc::Global;
 use std::alloc::Refused;
 
 // Why a word is no text.
-#[derive(Clone, Copy, Debug, PartialEq)]
+#[derive(Clone, Copy)]
 pub enum TextFault {
     BadHex,
     NoEnd,

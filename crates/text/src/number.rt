@@ -5,7 +5,7 @@ ghost use Rattle.std.specs.Orderings.{Decides};
 ghost use Rattle.text.specs.Numbers.{Digits, ReadsBelow, ReadsSigned, WithoutMinus};
 
 // Why a word is no number of the wanted size.
-#[derive(Clone, Copy, Debug, PartialEq)]
+#[derive(Clone, Copy)]
 pub enum NumberFault {
     NoDigits,
     TooLarge,

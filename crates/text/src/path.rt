@@ -9,14 +9,13 @@ use crate::step::PathFault;
 use crate::step::PathFaultFromAlloc;
 use crate::step::PathFaultFromRefused;
 use crate::step::Step;
-use crate::step::StepDebug;
 use crate::step::StepDisplay;
 use crate::step::read_step;
 use std::alloc::Global;
 use std::fmt;
 
 // Where a call goes: the steps from the root.
-#[derive(Debug, Drop)]
+#[derive(Drop)]
 pub struct Place {
     pub steps: Vec<Step>,
 }

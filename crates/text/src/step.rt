@@ -10,7 +10,7 @@ use std::alloc::Refused;
 use std::fmt;
 
 // Kind 0 is a pointer of a struct, 1 an element of a list of pointers, 2 a pointer of a row of a struct list. Others lead nowhere.
-#[derive(Clone, Copy, Debug, PartialEq, Eq)]
+#[derive(Clone, Copy)]
 pub struct Step {
     pub kind: u32,
     pub element: u32,
@@ -18,7 +18,7 @@ pub struct Step {
 }
 
 // Why a word is no path.
-#[derive(Clone, Copy, Debug, PartialEq)]
+#[derive(Clone, Copy)]
 pub enum PathFault {
     NoSlash,
     BadStep,

@@ -1,0 +1,8 @@
+// Scripts: cases of calls on a message, one command a line, each read into a typed command or a typed fault.
+pub mod args;
+pub mod calls;
+pub mod command;
+pub mod cut;
+pub mod fault;
+pub mod kind;
+pub mod source;
