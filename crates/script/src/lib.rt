@@ -5,4 +5,6 @@ pub mod command;
 pub mod cut;
 pub mod fault;
 pub mod kind;
+pub mod read;
 pub mod source;
+pub mod stage;
