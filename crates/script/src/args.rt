@@ -1,17 +1,17 @@
 // The arguments of a line by their place: each is there and is what the command wants, or the line has a problem at that place.
 use crate::fault::Fault;
 use crate::fault::Problem;
-use crate::kind::Kind;
-use crate::kind::Value;
-use crate::kind::read_kind;
-use crate::kind::read_value;
+use number::kind::Kind;
+use number::kind::Value;
+use number::kind::read_kind;
+use number::kind::read_value;
 use std::alloc::Global;
-use text::number::NumberFault;
-use text::number::number_u16;
-use text::number::number_u32;
-use text::path::Place;
-use text::path::read_place;
-use text::step::PathFault;
+use number::decimal::NumberFault;
+use number::decimal::number_u16;
+use number::decimal::number_u32;
+use path::place::Place;
+use path::place::read_place;
+use path::step::PathFault;
 
 pub fn word_at<'a>(words: &[&'a str], at: usize) -> Result<&'a str, Problem> {
     match words.get(at) {

@@ -1,7 +1,7 @@
 // The commands of a script: cases, their sources and their calls.
-use crate::kind::Kind;
-use crate::kind::Value;
-use text::path::Place;
+use number::kind::Kind;
+use number::kind::Value;
+use path::place::Place;
 
 // What a call does at its place.
 #[derive(Drop)]

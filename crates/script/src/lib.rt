@@ -2,9 +2,7 @@
 pub mod args;
 pub mod calls;
 pub mod command;
-pub mod cut;
 pub mod fault;
-pub mod kind;
 pub mod read;
 pub mod source;
 pub mod stage;

@@ -1,7 +1,4 @@
-// The words of a script: decimal numbers, paths, hex and quoted text. Each reader's contract says what it accepts and what it makes of it.
-pub mod back;
+// Lines of a script cut into words, and the bytes of a text, in hex or in quotes.
+pub mod cut;
 pub mod hex;
-pub mod number;
-pub mod path;
 pub mod quoted;
-pub mod step;
