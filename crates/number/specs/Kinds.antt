@@ -25,6 +25,15 @@ kindName kind.U32 = codes "u32"
 kindName kind.U64 = codes "u64"
 kindName kind.I32 = codes "i32"
 
+abbrev pub kindOf : Value → Kind
+kindOf (value.Bool b) = kind.Bool
+kindOf value.Void = kind.Void
+kindOf (value.U8 n) = kind.U8
+kindOf (value.U16 n) = kind.U16
+kindOf (value.U32 n) = kind.U32
+kindOf (value.U64 n) = kind.U64
+kindOf (value.I32 n) = kind.I32
+
 -- a reader of kinds answers the kind that has the name, and none just where no kind has it
 abbrev pub ReadsKind : List ℕ → Option Kind → Type 0
 ReadsKind bs (Some k) = bs ≡ kindName k

@@ -1,6 +1,6 @@
 // The kinds of numbers in a message, and values of each kind.
 ghost use mathlib.Core.Path.{_≡_};
-ghost use Rattle.number.specs.Kinds.{kindName, ReadsKind, ReadsValue};
+ghost use Rattle.number.specs.Kinds.{kindName, kindOf, ReadsKind, ReadsValue};
 ghost use Rattle.number.specs.declared.kind.Kind.the-variants.{Bool as BoolKind, I32 as SignedKind, Void as VoidKind};
 use std::fmt;
 use crate::decimal::NumberFault;
@@ -102,6 +102,22 @@ impl Kind {
             Kind::U32 => "u32",
             Kind::U64 => "u64",
             Kind::I32 => "i32",
+        }
+    }
+}
+
+impl Value {
+    pub fn kind(self) -> Kind
+        ensures { λ r. ⌜ r ≡ kindOf self ⌝ }
+    {
+        match self {
+            Value::Bool(_) => Kind::Bool,
+            Value::Void => Kind::Void,
+            Value::U8(_) => Kind::U8,
+            Value::U16(_) => Kind::U16,
+            Value::U32(_) => Kind::U32,
+            Value::U64(_) => Kind::U64,
+            Value::I32(_) => Kind::I32,
         }
     }
 }
