@@ -2,13 +2,13 @@
 ghost use mathlib.Core.Path.{_≡_};
 ghost use Rattle.number.specs.Kinds.{kindName, kindOf, ReadsKind, ReadsValue};
 ghost use Rattle.number.specs.declared.kind.Kind.the-variants.{Bool as BoolKind, I32 as SignedKind, Void as VoidKind};
-use std::fmt;
 use crate::decimal::NumberFault;
 use crate::decimal::number_i32;
+use crate::decimal::number_u8;
 use crate::decimal::number_u16;
 use crate::decimal::number_u32;
 use crate::decimal::number_u64;
-use crate::decimal::number_u8;
+use std::fmt;
 
 #[derive(Clone, Copy)]
 pub enum Kind {

@@ -1,13 +1,13 @@
 // What a command would do, in words.
 use crate::action::Deed;
+use crate::action::DeedDisplay;
+use crate::shown::CountedDisplay;
 use crate::shown::words;
 use script::command::Base;
 use script::command::Command;
 use script::command::Layer;
 use script::command::SourceSpec;
 use std::fmt;
-use crate::action::DeedDisplay;
-use crate::shown::CountedDisplay;
 
 // A command, to be shown as what it would do.
 #[derive(Clone, Copy)]

@@ -20,23 +20,43 @@ pub impl fmt::Display for Counted as CountedDisplay {
 }
 
 pub fn data_words(count: u16) -> Counted {
-    Counted { count: u64::from(count), one: "data word", many: "data words" }
+    Counted {
+        count: u64::from(count),
+        one: "data word",
+        many: "data words",
+    }
 }
 
 pub fn pointers(count: u16) -> Counted {
-    Counted { count: u64::from(count), one: "pointer", many: "pointers" }
+    Counted {
+        count: u64::from(count),
+        one: "pointer",
+        many: "pointers",
+    }
 }
 
 pub fn rows(count: u32) -> Counted {
-    Counted { count: u64::from(count), one: "row", many: "rows" }
+    Counted {
+        count: u64::from(count),
+        one: "row",
+        many: "rows",
+    }
 }
 
 pub fn elements(count: u32) -> Counted {
-    Counted { count: u64::from(count), one: "element", many: "elements" }
+    Counted {
+        count: u64::from(count),
+        one: "element",
+        many: "elements",
+    }
 }
 
 pub fn words(count: u32) -> Counted {
-    Counted { count: u64::from(count), one: "word", many: "words" }
+    Counted {
+        count: u64::from(count),
+        one: "word",
+        many: "words",
+    }
 }
 
 // Where a call goes, in words.

@@ -1,17 +1,17 @@
 // The arguments of a line by their place: each is there and is what the command wants, or the line has a problem at that place.
 use crate::fault::Fault;
 use crate::fault::Problem;
+use number::decimal::NumberFault;
+use number::decimal::number_u16;
+use number::decimal::number_u32;
 use number::kind::Kind;
 use number::kind::Value;
 use number::kind::read_kind;
 use number::kind::read_value;
-use std::alloc::Global;
-use number::decimal::NumberFault;
-use number::decimal::number_u16;
-use number::decimal::number_u32;
 use path::place::Place;
 use path::place::read_place;
 use path::step::PathFault;
+use std::alloc::Global;
 
 pub fn word_at<'a>(words: &[&'a str], at: usize) -> Result<&'a str, Problem> {
     match words.get(at) {

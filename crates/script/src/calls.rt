@@ -34,7 +34,11 @@ fn rows_action(words: &[&str]) -> Result<Action, Problem> {
     let data = u16_at(words, 3)?;
     let pointers = u16_at(words, 4)?;
     ends_at(words, 5)?;
-    Ok(Action::Rows { count, data, pointers })
+    Ok(Action::Rows {
+        count,
+        data,
+        pointers,
+    })
 }
 
 fn grow_struct_action(words: &[&str]) -> Result<Action, Problem> {
@@ -130,7 +134,7 @@ fn quoted_action(heap: Global, words: &[&str], rest: &str) -> Result<Action, Pro
     match read_quoted(heap, raw) {
         Ok((bytes, used)) => {
             if !is_blank(&raw[used..]) {
-                return Err(Fault::ExtraArgument.at(2));
+                return Err(Fault::AfterText.at(2));
             }
             Ok(Action::Text { bytes })
         }
@@ -155,7 +159,12 @@ fn text_action(heap: Global, words: &[&str], quoted: Option<&str>) -> Result<Act
 }
 
 // The action that the line's first word names.
-fn read_action(heap: Global, verb: &str, words: &[&str], quoted: Option<&str>) -> Result<Action, Problem> {
+fn read_action(
+    heap: Global,
+    verb: &str,
+    words: &[&str],
+    quoted: Option<&str>,
+) -> Result<Action, Problem> {
     match verb {
         "struct" => struct_action(words),
         "list" => list_action(words),
@@ -174,7 +183,12 @@ fn read_action(heap: Global, verb: &str, words: &[&str], quoted: Option<&str>) -
     }
 }
 
-pub fn read_call(heap: Global, verb: &str, words: &[&str], quoted: Option<&str>) -> Result<Call, Problem> {
+pub fn read_call(
+    heap: Global,
+    verb: &str,
+    words: &[&str],
+    quoted: Option<&str>,
+) -> Result<Call, Problem> {
     let place = place_at(heap, words, 1)?;
     let action = read_action(heap, verb, words, quoted)?;
     Ok(Call { place, action })

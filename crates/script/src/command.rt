@@ -6,19 +6,57 @@ use path::place::Place;
 // What a call does at its place.
 #[derive(Drop)]
 pub enum Action {
-    Struct { data: u16, pointers: u16 },
-    List { code: u32, count: u32 },
-    Rows { count: u32, data: u16, pointers: u16 },
-    GrowStruct { data: u16, pointers: u16 },
-    GrowRows { data: u16, pointers: u16 },
-    Field { index: u32, value: Value },
-    Row { row: u32, index: u32, value: Value },
-    Item { index: u32, value: Value },
-    Text { bytes: Vec<u8> },
+    Struct {
+        data: u16,
+        pointers: u16,
+    },
+    List {
+        code: u32,
+        count: u32,
+    },
+    Rows {
+        count: u32,
+        data: u16,
+        pointers: u16,
+    },
+    GrowStruct {
+        data: u16,
+        pointers: u16,
+    },
+    GrowRows {
+        data: u16,
+        pointers: u16,
+    },
+    Field {
+        index: u32,
+        value: Value,
+    },
+    Row {
+        row: u32,
+        index: u32,
+        value: Value,
+    },
+    Item {
+        index: u32,
+        value: Value,
+    },
+    Text {
+        bytes: Vec<u8>,
+    },
     Clear,
-    GetField { kind: Kind, index: u32 },
-    GetRow { row: u32, kind: Kind, index: u32 },
-    GetItem { kind: Kind, index: u32 },
+    GetField {
+        kind: Kind,
+        index: u32,
+    },
+    GetRow {
+        row: u32,
+        kind: Kind,
+        index: u32,
+    },
+    GetItem {
+        kind: Kind,
+        index: u32,
+    },
 }
 
 #[derive(Drop)]

@@ -19,6 +19,8 @@ pub enum Fault {
     BadHex,
     NoEndOfText,
     BadEscape,
+    AfterText,
+    UnexpectedText,
     NoCase,
     NoSource,
     SecondSource,

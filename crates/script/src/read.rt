@@ -4,17 +4,18 @@ use crate::args::u32_at;
 use crate::args::word_at;
 use crate::calls::read_call;
 use crate::command::Command;
-use text::cut::Line;
-use text::cut::cut_line;
 use crate::fault::Fault;
 use crate::fault::Problem;
 use crate::fault::ProblemFromAlloc;
 use crate::source::read_source;
+use crate::stage::Sort;
 use crate::stage::Stage;
 use crate::stage::sort_of;
 use crate::stage::take_turn;
 use std::alloc::AllocError;
 use std::alloc::Global;
+use text::cut::Line;
+use text::cut::cut_line;
 
 // A command and the number of its line, from 1.
 #[derive(Drop)]
@@ -58,8 +59,11 @@ fn read_alone(words: &[&str], command: Command) -> Result<Command, Problem> {
 pub fn read_command(heap: Global, line: &Line) -> Result<Command, Problem> {
     let words = line.words.as_slice();
     let verb = word_at(words, 0)?;
+    if let Sort::Unknown = sort_of(verb) {
+        return Err(Fault::UnknownWord.at(0));
+    }
     if line.quoted.is_some() && verb != "text" {
-        return Err(Fault::ExtraArgument.at(words.len()));
+        return Err(Fault::UnexpectedText.at(words.len()));
     }
     match verb {
         "case" => read_case(heap, words),
@@ -90,14 +94,24 @@ impl Script {
     }
 
     // A line that has words, with what is wrong with its order.
-    fn take(&mut self, heap: Global, number: usize, line: &Line, fault: Option<Fault>) -> Result<(), AllocError> {
+    fn take(
+        &mut self,
+        heap: Global,
+        number: usize,
+        line: &Line,
+        fault: Option<Fault>,
+    ) -> Result<(), AllocError> {
         let words = line.words.as_slice();
         if let Some(fault) = fault {
             return self.note(number, fault, blamed(heap, words, 0)?);
         }
         match read_command(heap, line) {
             Ok(command) => {
-                self.commands.push(Numbered { line: number, command })?;
+                self.commands
+                    .push(Numbered {
+                        line: number,
+                        command,
+                    })?;
                 Ok(())
             }
             Err(problem) => self.note(number, problem.fault, blamed(heap, words, problem.at)?),
@@ -105,10 +119,16 @@ impl Script {
     }
 
     // A line at a stage, and the stage after it.
-    fn turn(&mut self, heap: Global, number: usize, line: &Line, stage: Stage) -> Result<Stage, AllocError> {
+    fn turn(
+        &mut self,
+        heap: Global,
+        number: usize,
+        line: &Line,
+        stage: Stage,
+    ) -> Result<Stage, AllocError> {
         let Some(verb) = line.words.first() else {
             if line.quoted.is_some() {
-                self.note(number, Fault::UnknownWord, String::from_str(heap, "\"")?)?;
+                self.note(number, Fault::UnexpectedText, String::new(heap))?;
             }
             return Ok(stage);
         };
@@ -119,7 +139,10 @@ impl Script {
 }
 
 pub fn read_script(heap: Global, text: &str) -> Result<Script, AllocError> {
-    let mut script = Script { commands: Vec::new(heap), bad: Vec::new(heap) };
+    let mut script = Script {
+        commands: Vec::new(heap),
+        bad: Vec::new(heap),
+    };
     let mut stage = Stage::Outside;
     let mut number: usize = 0;
     for text_line in text.lines() {

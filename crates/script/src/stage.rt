@@ -1,4 +1,6 @@
 // The order of a case's lines: its name, its source, then its calls. A fault does not stop the reading, so that every bad line is found.
+ghost use mathlib.Core.Path.{_≡_};
+ghost use Rattle.script.specs.Order.{afterOutside, afterNamed, afterReady, following};
 use crate::fault::Fault;
 
 // How far a case has come: none is begun, its name is known, its source is known.
@@ -38,33 +40,74 @@ pub fn sort_of(verb: &str) -> Sort {
     }
 }
 
-fn after_outside(sort: Sort) -> Turn {
+fn after_outside(sort: Sort) -> Turn
+    ensures { λ r. ⌜ r ≡ afterOutside sort ⌝ }
+{
     match sort {
-        Sort::Case => Turn { stage: Stage::Named, fault: None },
-        Sort::Unknown => Turn { stage: Stage::Outside, fault: None },
-        _ => Turn { stage: Stage::Outside, fault: Some(Fault::NoCase) },
+        Sort::Case => Turn {
+            stage: Stage::Named,
+            fault: None,
+        },
+        Sort::Unknown => Turn {
+            stage: Stage::Outside,
+            fault: None,
+        },
+        _ => Turn {
+            stage: Stage::Outside,
+            fault: Some(Fault::NoCase),
+        },
     }
 }
 
-fn after_named(sort: Sort) -> Turn {
+fn after_named(sort: Sort) -> Turn
+    ensures { λ r. ⌜ r ≡ afterNamed sort ⌝ }
+{
     match sort {
-        Sort::Source => Turn { stage: Stage::Ready, fault: None },
-        Sort::Unknown => Turn { stage: Stage::Named, fault: None },
-        Sort::End => Turn { stage: Stage::Outside, fault: Some(Fault::NoSource) },
-        Sort::Case | Sort::Call => Turn { stage: Stage::Named, fault: Some(Fault::NoSource) },
+        Sort::Source => Turn {
+            stage: Stage::Ready,
+            fault: None,
+        },
+        Sort::Unknown => Turn {
+            stage: Stage::Named,
+            fault: None,
+        },
+        Sort::End => Turn {
+            stage: Stage::Outside,
+            fault: Some(Fault::NoSource),
+        },
+        Sort::Case | Sort::Call => Turn {
+            stage: Stage::Named,
+            fault: Some(Fault::NoSource),
+        },
     }
 }
 
-fn after_ready(sort: Sort) -> Turn {
+fn after_ready(sort: Sort) -> Turn
+    ensures { λ r. ⌜ r ≡ afterReady sort ⌝ }
+{
     match sort {
-        Sort::Case => Turn { stage: Stage::Named, fault: None },
-        Sort::End => Turn { stage: Stage::Outside, fault: None },
-        Sort::Source => Turn { stage: Stage::Ready, fault: Some(Fault::SecondSource) },
-        Sort::Call | Sort::Unknown => Turn { stage: Stage::Ready, fault: None },
+        Sort::Case => Turn {
+            stage: Stage::Named,
+            fault: None,
+        },
+        Sort::End => Turn {
+            stage: Stage::Outside,
+            fault: None,
+        },
+        Sort::Source => Turn {
+            stage: Stage::Ready,
+            fault: Some(Fault::SecondSource),
+        },
+        Sort::Call | Sort::Unknown => Turn {
+            stage: Stage::Ready,
+            fault: None,
+        },
     }
 }
 
-pub fn take_turn(stage: Stage, sort: Sort) -> Turn {
+pub fn take_turn(stage: Stage, sort: Sort) -> Turn
+    ensures { λ r. ⌜ r ≡ following stage sort ⌝ }
+{
     match stage {
         Stage::Outside => after_outside(sort),
         Stage::Named => after_named(sort),

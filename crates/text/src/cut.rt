@@ -1,4 +1,5 @@
 // A line cut into its words: up to a comment, or up to the quote that opens a text.
+ghost use Rattle.text.specs.Lines.{Uncommented, CutAt};
 use std::alloc::AllocError;
 use std::alloc::Global;
 
@@ -9,14 +10,19 @@ pub struct Line<'a> {
     pub quoted: Option<&'a str>,
 }
 
-fn before_comment(line: &str) -> &str {
+fn before_comment(line: &str) -> &str
+    ensures { λ r. ⌜ Uncommented (now (line .entry)) (now r) ⌝ }
+{
     match line.split_once('#') {
         Some((head, _)) => head,
         None => line,
     }
 }
 
-pub fn split_quote(line: &str) -> (&str, Option<&str>) {
+// What stands before a comment or an opening quote, and what stands behind that quote.
+pub fn split_quote(line: &str) -> (&str, Option<&str>)
+    ensures { λ r. ⌜ CutAt (now (line .entry)) (now (r .0)) (r .1) ⌝ }
+{
     if let Some((head, rest)) = line.split_once('"') {
         if !head.contains('#') {
             return (head, Some(rest));
