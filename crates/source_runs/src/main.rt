@@ -24,20 +24,12 @@ use slab::SlabReading;
 use slab::SlabSource;
 use std::io;
 
-// What is offered for each of some minima.
-fn offers<S: Source, R: Print>(rt: &R, s: &S, minima: &[u32]) -> io::Result<()> {
-    for m in minima {
-        let offer = s.offer(*m);
-        println!(rt, "  offer {m}: {offer:?}")?;
-    }
-    Ok(())
-}
-
-// Grants each of some minima.
+// What is offered for each of some minima, and what a grant answers.
 fn grants<S: Source, R: Print>(rt: &R, s: &mut S, minima: &[u32]) -> io::Result<()> {
     for m in minima {
+        let offer = s.offer(*m);
         let granted = s.grant(*m);
-        println!(rt, "  grant {m}: {granted:?}")?;
+        println!(rt, "  {m}: offer {offer:?}, grant {granted:?}")?;
     }
     Ok(())
 }
@@ -80,15 +72,14 @@ fn exhaust<S: Source, R: Print>(rt: &R, s: &mut S) -> io::Result<()> {
     println!(rt, "  100 grants")
 }
 
-// Offers and grants, writes at the edges of a segment, and all again after taking back.
+// Grants, writes at the edges of segments, and grants again after taking back.
 fn tour<S: Source, R: Print>(rt: &R, s: &mut S, minima: &[u32]) -> io::Result<()> {
-    offers(rt, s, minima)?;
     grants(rt, s, minima)?;
-    segments(rt, s)?;
     store(rt, s, 0, 0)?;
     store(rt, s, 0, 256)?;
     store(rt, s, 1, 255)?;
     store(rt, s, 9, 0)?;
+    segments(rt, s)?;
     s.take_back();
     let n = s.count();
     println!(rt, "  taken back: {n} segments")?;
@@ -141,8 +132,7 @@ fn main(rt: LibcRuntime) -> io::Result<()> {
     let mut words = [9u64; 100];
     println!(rt, "a slab of 100 with step 16")?;
     let mut slab = Slab::new(&mut words, 16);
-    offers(&rt, &slab, &[0, 1, 16, 17, 100, 101, 536870912])?;
-    tour(&rt, &mut slab, &[1, 85, 84, 1])?;
+    tour(&rt, &mut slab, &[0, 101, 536870912, 1, 16, 17, 52, 51, 1])?;
     println!(rt, "a slab of 100 with step 0")?;
     let mut slab = Slab::new(&mut words, 0);
     exhaust(&rt, &mut slab)?;

@@ -1,0 +1,4 @@
+pub mod Again
+pub mod PathSteps
+pub mod Splits
+pub mod StepForms

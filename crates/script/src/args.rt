@@ -1,0 +1,73 @@
+// The arguments of a line by their place: each is there and is what the command wants, or the line has a problem at that place.
+use crate::fault::Fault;
+use crate::fault::Problem;
+use number::decimal::NumberFault;
+use number::decimal::number_u16;
+use number::decimal::number_u32;
+use number::kind::Kind;
+use number::kind::Value;
+use number::kind::read_kind;
+use number::kind::read_value;
+use path::place::Place;
+use path::place::read_place;
+use path::step::PathFault;
+use std::alloc::Global;
+
+pub fn word_at<'a>(words: &[&'a str], at: usize) -> Result<&'a str, Problem> {
+    match words.get(at) {
+        Some(word) => Ok(*word),
+        None => Err(Fault::MissingArgument.at(at)),
+    }
+}
+
+// No word stands at this place.
+pub fn ends_at(words: &[&str], at: usize) -> Result<(), Problem> {
+    if words.len() > at {
+        return Err(Fault::ExtraArgument.at(at));
+    }
+    Ok(())
+}
+
+fn number_fault(fault: NumberFault) -> Fault {
+    match fault {
+        NumberFault::NoDigits => Fault::BadNumber,
+        NumberFault::TooLarge => Fault::NumberTooLarge,
+    }
+}
+
+pub fn u16_at(words: &[&str], at: usize) -> Result<u16, Problem> {
+    match number_u16(word_at(words, at)?) {
+        Ok(n) => Ok(n),
+        Err(e) => Err(number_fault(e).at(at)),
+    }
+}
+
+pub fn u32_at(words: &[&str], at: usize) -> Result<u32, Problem> {
+    match number_u32(word_at(words, at)?) {
+        Ok(n) => Ok(n),
+        Err(e) => Err(number_fault(e).at(at)),
+    }
+}
+
+pub fn kind_at(words: &[&str], at: usize) -> Result<Kind, Problem> {
+    match read_kind(word_at(words, at)?) {
+        Some(kind) => Ok(kind),
+        None => Err(Fault::BadKind.at(at)),
+    }
+}
+
+pub fn value_at(words: &[&str], at: usize, kind: Kind) -> Result<Value, Problem> {
+    match read_value(kind, word_at(words, at)?) {
+        Ok(value) => Ok(value),
+        Err(_) => Err(Fault::BadValue.at(at)),
+    }
+}
+
+pub fn place_at(heap: Global, words: &[&str], at: usize) -> Result<Place, Problem> {
+    match read_place(heap, word_at(words, at)?) {
+        Ok(place) => Ok(place),
+        Err(PathFault::TooLarge) => Err(Fault::PathNumberTooLarge.at(at)),
+        Err(PathFault::Memory) => Err(Fault::Memory.at(at)),
+        Err(_) => Err(Fault::BadPath.at(at)),
+    }
+}

@@ -1,0 +1,3 @@
+pub mod Lines
+pub mod Quotes
+pub mod Texts
