@@ -1,9 +1,16 @@
 // The command line tool: reads a script of calls and says what it would do.
+ghost use Prim.Native.Nat.{ℕ, _≤_};
+ghost use lib.ListN.{length};
+use drive::run_case;
 use report::bad::Told;
 use report::bad::ToldDisplay;
 use report::command::Plan;
 use report::command::PlanDisplay;
+
+mod drive;
+
 use script::command::Command;
+use script::read::Numbered;
 use script::read::Script;
 use script::read::read_script;
 use std::env;
@@ -71,12 +78,41 @@ fn load(rt: &LibcRuntime, file: &str) -> Result<Script, AnyError> {
     }
 }
 
+// How many lines of a case follow its source.
+fn case_length(lines: &[Numbered]) -> usize
+    ensures bound { λ r. ⌜ r ≤ length (now (lines .entry)) ⌝ }
+{
+    for (i, numbered) in lines.iter().enumerate() {
+        if let Command::Case { .. } | Command::End = &numbered.command {
+            return i;
+        }
+    }
+    lines.len()
+}
+
+// The lines from one on, with those of its case where it names a source; how many were run.
+fn run_some(rt: &LibcRuntime, lines: &[Numbered], at: usize) -> Result<usize, AnyError> {
+    let Some(numbered) = lines.get(at) else {
+        return Ok(0);
+    };
+    let line = numbered.line;
+    let plan = Plan(&numbered.command);
+    println!(rt, "line {line}: {plan}")?;
+    let Command::Source(spec) = &numbered.command else {
+        return Ok(1);
+    };
+    let rest = &lines[at + 1..lines.len()];
+    let n = case_length(rest);
+    run_case(rt, spec, &rest[0..n])?;
+    Ok(1 + n)
+}
+
 fn run(rt: &LibcRuntime, file: &str) -> Result<(), AnyError> {
     let script = load(rt, file)?;
-    for numbered in script.commands.iter() {
-        let line = numbered.line;
-        let plan = Plan(&numbered.command);
-        println!(rt, "line {line}: {plan}")?;
+    let lines = script.commands.as_slice();
+    let mut at = 0;
+    for _ in 0..lines.len() {
+        at = run_some(rt, lines, at)?.saturating_add(at);
     }
     Ok(())
 }
