@@ -33,6 +33,7 @@ worked = record {
   empty-over-a-pad = refl;
   empty-over-two = refl;
   pointers-to-rows = refl;
+  two-children-stay = refl;
   replaced = refl;
   cleared = refl;
   field-write = refl;

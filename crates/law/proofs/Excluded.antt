@@ -21,7 +21,7 @@ use Rattle.law.specs.Machine.{fine, wrong, Verdict, judge, effect, reply}
 use Rattle.law.specs.Exact.{Written, moved, call-outcome}
 use Rattle.law.specs.Law.{Offers, Offered, Meaning, Source, State, memory, Stands, Holds, Granted, Reply, told, Accepted, Crowded, Placing, Lawful, Begun}
 use Rattle.law.specs.Cases.{seg, at-root, in-pointer}
-use Rattle.law.specs.Excluded.{Slab, used, offer-of, slab, draft, state, says, begun, with-struct, short-run, dirty, two-children, one-child, old-pad, tree-of, Wrong-behaviours-excluded, Examples}
+use Rattle.law.specs.Excluded.{Slab, used, offer-of, slab, draft, state, says, begun, with-struct, short-run, dirty, two-children, one-child, old-pad, two-texts, swapped-texts, tree-of, Wrong-behaviours-excluded, Examples}
 use Rattle.law.proofs.Tables.{first-kept}
 use Rattle.law.proofs.Drafts.{begun-holds}
 use Rattle.law.proofs.Enough.{rejects, crowds, accepts}
@@ -50,6 +50,10 @@ excluded X = record {
       let p = accepted-by S (state one-child (seg 4 4 ∷ []) o f) (tree-of one-child) (at-root (get-struct 1 1)) (4 ∷ 4 ∷ []) y
       (state old-pad (seg 4 4 ∷ seg 3 4 ∷ seg 2 4 ∷ []) o′ f′) _ _ refl refl h in
       let z : _≡_ {A = ℕ} 0x0000000200000000 0 = ap (λ M. M 0 1) (p .words-are) in
+      absurd (omega arith);
+  swapped-children = λ S o f o′ f′ y h.
+      let p = accepted-by S (state two-texts (seg 5 8 ∷ []) o f) (tree-of two-texts) (at-root (get-struct 1 2)) [] y (state swapped-texts (seg 8 8 ∷ []) o′ f′) _ _ refl refl h in
+      let z : _≡_ {A = ℕ} 0x0000000AFFFFFFF5 0x0000000AFFFFFFF1 = ap (λ M. M 0 6) (p .words-are) in
       absurd (omega arith);
   needless-grant = λ S o f y s′ h.
       let p = accepted-by S (state [] [] o f) null (at-root (init-struct 1 0)) (16 ∷ 2 ∷ []) y s′ _ _ refl refl h in

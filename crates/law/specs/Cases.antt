@@ -107,6 +107,9 @@ pub record Worked-cases : Type 0 where
   -- a list of two pointers, the second to a byte list, is opened as rows of one data word: the child stays and its pointer is aimed anew
   pub pointers-to-rows : after ((0x0000001600000001 ∷ 0 ∷ 0x0000000A00000001 ∷ 0x61 ∷ []) ∷ []) (seg 4 16 ∷ []) (at-root (get-rows 1 0)) [] ≡
       left ((0x000000270000000D ∷ 0 ∷ 0 ∷ 0x61 ∷ 0x0001000100000008 ∷ 0 ∷ 0 ∷ 0 ∷ 0x0000000AFFFFFFE9 ∷ []) ∷ []) [] (0, 4)
+  -- two children of a struct stay where they are when it is made larger
+  pub two-children-stay : after ((0x0002000000000000 ∷ 0x0000000A00000005 ∷ 0x0000000A00000005 ∷ 0x61 ∷ 0x62 ∷ []) ∷ []) (seg 5 16 ∷ []) (at-root (get-struct 1 2)) [] ≡
+      left ((0x0002000100000010 ∷ 0 ∷ 0 ∷ 0x61 ∷ 0x62 ∷ 0 ∷ 0x0000000AFFFFFFF1 ∷ 0x0000000AFFFFFFF1 ∷ []) ∷ []) [] (0, 5)
   -- a value is replaced: its words are zero, and stay allocated
   pub replaced : after ((0x0000000100000000 ∷ 5 ∷ []) ∷ []) (seg 2 16 ∷ []) (at-root (init-struct 0 1)) [] ≡
       left ((0x0001000000000004 ∷ 0 ∷ 0 ∷ []) ∷ []) [] (0, 2)

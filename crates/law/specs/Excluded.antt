@@ -77,6 +77,13 @@ one-child = (0x0001000000000000 ∷ 0x0000000200000000 ∷ 0 ∷ 0 ∷ []) ∷ [
 abbrev pub old-pad : List (List ℕ)
 old-pad = (0x0000000100000002 ∷ 0x0000000200000000 ∷ 0 ∷ 0 ∷ []) ∷ (0x0001000100000000 ∷ 0 ∷ 0xA ∷ 0 ∷ []) ∷ (0 ∷ 0 ∷ 0 ∷ 0 ∷ []) ∷ []
 
+-- a struct with two texts; then made larger, with its children swapped
+abbrev pub two-texts : List (List ℕ)
+two-texts = (0x0002000000000000 ∷ 0x0000000A00000005 ∷ 0x0000000A00000005 ∷ 0x61 ∷ 0x62 ∷ []) ∷ []
+
+abbrev pub swapped-texts : List (List ℕ)
+swapped-texts = (0x0002000100000010 ∷ 0 ∷ 0 ∷ 0x61 ∷ 0x62 ∷ 0 ∷ 0x0000000AFFFFFFF5 ∷ 0x0000000AFFFFFFED ∷ []) ∷ []
+
 abbrev pub tree-of : List (List ℕ) → Value
 tree-of m = decode 64 (word m) 0 0
 
@@ -88,6 +95,8 @@ pub record Wrong-behaviours-excluded (X : Type 0) : Type 0 where
   pub other-pad : (S : Source X) (o f o′ f′ : Offers) (y : Reply) →
       Lawful S (state one-child (seg 4 4 ∷ []) o f) (tree-of one-child) (at-root (get-struct 1 1)) (4 ∷ 4 ∷ []) y
       (state old-pad (seg 4 4 ∷ seg 3 4 ∷ seg 2 4 ∷ []) o′ f′) → ⊥
+  pub swapped-children : (S : Source X) (o f o′ f′ : Offers) (y : Reply) →
+      Lawful S (state two-texts (seg 5 8 ∷ []) o f) (tree-of two-texts) (at-root (get-struct 1 2)) [] y (state swapped-texts (seg 8 8 ∷ []) o′ f′) → ⊥
   -- a grant that is not needed
   pub needless-grant : (S : Source X) (o f : Offers) (y : Reply) (s′ : State) →
       Lawful S (state [] [] o f) null (at-root (init-struct 1 0)) (16 ∷ 2 ∷ []) y s′ → ⊥

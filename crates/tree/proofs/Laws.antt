@@ -28,6 +28,7 @@ laws = record {
   inits-behind = λ H H′ a a′ v p s q x sh go ok e c. well-laid H′ a′ _ (blanks.init H H′ a a′ v p _ sh go (sound H a v ok) e (blanks.behind-new H H′ a a′ _ _ s q x sh c));
   renumbers = λ H H′ a v p sh dat dat′ kid go ok e c. well-laid H′ a _ (edits.renumber H H′ a v p sh dat dat′ kid go (sound H a v ok) e c);
   writes = λ H a v p sh dat kid i k x go ok e hi hk hx wide. well-laid _ a _ (numbers.write H a v p sh dat kid i k x go (sound H a v ok) e hi hk hx wide);
+  moves-null = λ H H′ a g w G W e k. transfers.transfer-null H H′ a g w G W e k;
   copies-far = λ H H′ a g w G W sh dat kid f k e. transfers.transfer-far H H′ a g w G W sh dat kid f k e;
   aims-near = λ H H′ a a′ g w W sh dat kid f n s k e. transfers.transfer-near H H′ a a′ g w W sh dat kid f n s k e;
   moves-empty = λ H H′ a a′ g w G W sh dat kid f s k h e. transfers.transfer-empty H H′ a a′ g w G W sh dat kid f s k h e;

@@ -45,8 +45,10 @@ pub record Laws : Type 0 where
       let l = land H (walk H 0 0 v p .0) (walk H 0 0 v p .1) in
       Well-laid (change H (l .seg) (l .pos + place-word sh i k) (place-put sh (H (l .seg) (l .pos + place-word sh i k)) i x)) a
       (put v p (object sh (change dat i k x) kid))
-  -- ## The ways in which a child gets from the slot (g, w) to the slot (G, W); a null child has nothing to move
+  -- ## The ways in which a child gets from the slot (g, w) to the slot (G, W)
 
+  pub moves-null : (H H′ : Memory) (a : ℕ → ℕ) (g w G W : ℕ) → H′ G W ≡ 0 → ((x y : ℕ) → (x ≡ G → y ≡ W → ⊥) → H′ x y ≡ H x y) →
+      Transferred H H′ a a g w G W 0 0 0 null
   pub copies-far : (H H′ : Memory) (a : ℕ → ℕ) (g w G W : ℕ) (sh : Shape) (dat : ℕ → ℕ → ℕ) (kid : ℕ → ℕ → Value) →
       Steady H H′ a a g w G W 0 0 0 (object sh dat kid) → way (H g w) ≢ direct → H′ G W ≡ H g w →
       Transferred H H′ a a g w G W 0 0 0 (object sh dat kid)
