@@ -26,9 +26,13 @@ worth-after n (c ∷ cs) = worth-after (n * 10 + (c - 48)) cs
 abbrev pub worth : List ℕ → ℕ
 worth bs = worth-after 0 bs
 
+-- bs is the text of the number n below `top`
+abbrev pub NumberText : ℕ → List ℕ → ℕ → Type 0
+NumberText top bs n = Numeral bs × (worth bs < top) × (n ≡ worth bs)
+
 -- what a reader of numbers below `top` answers
 abbrev pub ReadsBelow : ℕ → List ℕ → Result ℕ NumberFault → Type 0
-ReadsBelow top bs (Ok n) = Numeral bs × (worth bs < top) × (n ≡ worth bs)
+ReadsBelow top bs (Ok n) = NumberText top bs n
 ReadsBelow top bs (Err NoDigits) = Numeral bs → ⊥
 ReadsBelow top bs (Err TooLarge) = Numeral bs × (top ≤ worth bs)
 

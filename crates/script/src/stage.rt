@@ -1,6 +1,6 @@
 // The order of a case's lines: its name, its source, then its calls. A fault does not stop the reading, so that every bad line is found.
 ghost use mathlib.Core.Path.{_≡_};
-ghost use Rattle.script.specs.Order.{afterOutside, afterNamed, afterReady, following};
+ghost use Rattle.script.specs.Order.{right, faulty, afterOutside, afterNamed, afterReady, following};
 use crate::fault::Fault;
 
 // How far a case has come: none is begun, its name is known, its source is known.
@@ -40,22 +40,30 @@ pub fn sort_of(verb: &str) -> Sort {
     }
 }
 
+impl Turn {
+    fn to(stage: Stage) -> Turn
+        ensures { λ r. ⌜ r ≡ right stage ⌝ }
+    {
+        Turn { stage, fault: None }
+    }
+
+    fn wrong(stage: Stage, fault: Fault) -> Turn
+        ensures { λ r. ⌜ r ≡ faulty stage fault ⌝ }
+    {
+        Turn {
+            stage,
+            fault: Some(fault),
+        }
+    }
+}
+
 fn after_outside(sort: Sort) -> Turn
     ensures { λ r. ⌜ r ≡ afterOutside sort ⌝ }
 {
     match sort {
-        Sort::Case => Turn {
-            stage: Stage::Named,
-            fault: None,
-        },
-        Sort::Unknown => Turn {
-            stage: Stage::Outside,
-            fault: None,
-        },
-        _ => Turn {
-            stage: Stage::Outside,
-            fault: Some(Fault::NoCase),
-        },
+        Sort::Case => Turn::to(Stage::Named),
+        Sort::Unknown => Turn::to(Stage::Outside),
+        Sort::Source | Sort::Call | Sort::End => Turn::wrong(Stage::Outside, Fault::NoCase),
     }
 }
 
@@ -63,22 +71,10 @@ fn after_named(sort: Sort) -> Turn
     ensures { λ r. ⌜ r ≡ afterNamed sort ⌝ }
 {
     match sort {
-        Sort::Source => Turn {
-            stage: Stage::Ready,
-            fault: None,
-        },
-        Sort::Unknown => Turn {
-            stage: Stage::Named,
-            fault: None,
-        },
-        Sort::End => Turn {
-            stage: Stage::Outside,
-            fault: Some(Fault::NoSource),
-        },
-        Sort::Case | Sort::Call => Turn {
-            stage: Stage::Named,
-            fault: Some(Fault::NoSource),
-        },
+        Sort::Source => Turn::to(Stage::Ready),
+        Sort::Unknown => Turn::to(Stage::Named),
+        Sort::End => Turn::wrong(Stage::Outside, Fault::NoSource),
+        Sort::Case | Sort::Call => Turn::wrong(Stage::Named, Fault::NoSource),
     }
 }
 
@@ -86,22 +82,10 @@ fn after_ready(sort: Sort) -> Turn
     ensures { λ r. ⌜ r ≡ afterReady sort ⌝ }
 {
     match sort {
-        Sort::Case => Turn {
-            stage: Stage::Named,
-            fault: None,
-        },
-        Sort::End => Turn {
-            stage: Stage::Outside,
-            fault: None,
-        },
-        Sort::Source => Turn {
-            stage: Stage::Ready,
-            fault: Some(Fault::SecondSource),
-        },
-        Sort::Call | Sort::Unknown => Turn {
-            stage: Stage::Ready,
-            fault: None,
-        },
+        Sort::Case => Turn::to(Stage::Named),
+        Sort::End => Turn::to(Stage::Outside),
+        Sort::Source => Turn::wrong(Stage::Ready, Fault::SecondSource),
+        Sort::Call | Sort::Unknown => Turn::to(Stage::Ready),
     }
 }
 
