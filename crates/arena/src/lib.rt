@@ -6,6 +6,7 @@ use table::SegmentTable;
 
 pub mod allocation;
 pub mod placing;
+pub mod zeroing;
 
 // A source with the table of its segments.
 pub struct BuilderArena<S> {
