@@ -1,3 +1,4 @@
 -- Lemmas of this crate.
 pub mod Grants
 pub mod Zeros
+pub mod Rewind

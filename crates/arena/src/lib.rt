@@ -5,6 +5,7 @@ use segments::refusal::Refusal;
 use table::SegmentTable;
 
 pub mod allocation;
+pub mod mark;
 pub mod placing;
 pub mod zeroing;
 

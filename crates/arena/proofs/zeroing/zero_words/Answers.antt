@@ -12,11 +12,12 @@ pub loop-i-again : need.loop-i-again
 loop-i-again g c =
     let m : List (List ℕ) = g .S·Reading .segments (c .args .source .now) in
     let w : ℕ = c .args .from + c .loop-i .i in
-    let p = written-put (c .write .result) (g .S·Reading .segments (c .loop-i .source)) (g .S·Reading .segments (c .write .last .self)) (c .args .g) w 0 (c .write .ensures .outcome) in
-    (p ∙ (ap (λ (k : List (List ℕ)). put k (c .args .g) w 0) (c .loop-i .inv .0) ∙ zeroed-more m (c .args .g) (c .args .from) (c .loop-i .i)),
-    c .write .ensures .offers ∙ c .loop-i .inv .1,
-    c .write .ensures .first ∙ c .loop-i .inv .2,
-    c .write .ensures .fault ∙ c .loop-i .inv .3)
+    let p = written-put (c .write .result) (g .S·Reading .segments (c .loop-i .source)) (g .S·Reading .segments (c .write .last .self)) (c .args .g) w 0 (c .write .ensures .outcome) in (
+      p ∙ (ap (λ (k : List (List ℕ)). put k (c .args .g) w 0) (c .loop-i .inv .0) ∙ zeroed-more m (c .args .g) (c .args .from) (c .loop-i .i)),
+      c .write .ensures .offers ∙ c .loop-i .inv .1,
+      c .write .ensures .first ∙ c .loop-i .inv .2,
+      c .write .ensures .fault ∙ c .loop-i .inv .3,
+    )
 
 pub returns : need.returns
 returns g c =
