@@ -2,3 +2,4 @@
 pub mod Grants
 pub mod Zeros
 pub mod Rewind
+pub mod Ruled

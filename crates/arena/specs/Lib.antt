@@ -2,3 +2,4 @@
 pub mod Faults
 pub mod Space
 pub mod Zeroed
+pub mod Rule

@@ -7,6 +7,7 @@ use table::SegmentTable;
 pub mod allocation;
 pub mod mark;
 pub mod placing;
+pub mod rule;
 pub mod zeroing;
 
 // A source with the table of its segments.

@@ -16,6 +16,7 @@ use Rattle.std.specs.declared.option.Option.the-variants.{Some, None}
 use Rattle.table.specs.declared.SegmentEntry.{SegmentEntry}
 use Rattle.table.specs.Segments.{Segment, fresh, more, Table, allocated-in, left-in, take, first-fit}
 use Rattle.table.specs.Entries.{no-entry, All-bounded}
+use Rattle.table.proofs.Tables.{first-fits}
 use Rattle.table.specs.Meaning.{segment-of, has-room, next-words, with-words, first-words, with-first-words, can-add, with-segment}
 
 abbrev pub segments-of : ℕ → List SegmentEntry → Table
@@ -114,26 +115,12 @@ first-fit-is (s ∷ t) (suc g) n h below here =
     cond-false (leb n (s .capacity - s .allocated)) 0 (suc (first-fit t n)) (lt-leb n (s .capacity - s .allocated) (below 0 (omega arith))) ∙
     ap suc (first-fit-is t g n (omega arith) (λ k l. below (suc k) (omega arith)) (λ l. here (omega arith)))
 
-pub first-fit-le : (t : Table) (n : ℕ) → first-fit t n ≤ length t
-first-fit-le [] n = omega arith
-first-fit-le (s ∷ t) n =
-    cond-both (leb n (s .capacity - s .allocated)) 0 (suc (first-fit t n)) (λ g. g ≤ suc (length t))
-    (λ _. omega arith) (λ _. let h = first-fit-le t n in omega arith)
-
--- where there is a first segment, it has the words
-pub first-fit-fits : (t : Table) (n : ℕ) → first-fit t n < length t → n ≤ left-in t (first-fit t n)
-first-fit-fits [] n = λ h. absurd (omega arith)
-first-fit-fits (s ∷ t) n =
-    cond-both (leb n (s .capacity - s .allocated)) 0 (suc (first-fit t n)) (λ g. g < suc (length t) → n ≤ left-in (s ∷ t) g)
-    (λ e _. leb-true n (s .capacity - s .allocated) e)
-    (λ _ h. first-fit-fits t n (omega arith))
-
 pub first-room : (t : Table) (n : ℕ) → has-room t (first-fit t n) n ≡ ltb (first-fit t n) (length t)
 first-room t n =
     ⊎-elim
     (λ (h : first-fit t n < length t).
     and-from (ltb (first-fit t n) (length t)) (leb n (left-in t (first-fit t n))) (lt-ltb (first-fit t n) (length t) h)
-    (le-leb n (left-in t (first-fit t n)) (first-fit-fits t n h)) ∙
+    (le-leb n (left-in t (first-fit t n)) (first-fits t n h)) ∙
     sym (lt-ltb (first-fit t n) (length t) h))
     (λ (h : length t ≤ first-fit t n).
     and-left (ltb (first-fit t n) (length t)) (leb n (left-in t (first-fit t n))) (le-ltb (first-fit t n) (length t) h) ∙
