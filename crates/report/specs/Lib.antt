@@ -1,0 +1,1 @@
+-- The contracts of this crate cite no definitions of its own.
