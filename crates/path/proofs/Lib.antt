@@ -1,3 +1,4 @@
+-- Lemmas of this crate.
 pub mod Again
 pub mod PathSteps
 pub mod Splits

@@ -1,3 +1,4 @@
+-- The definitions that contracts of this crate cite.
 pub mod Lines
 pub mod Quotes
 pub mod Texts
