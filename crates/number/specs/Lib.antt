@@ -1,3 +1,3 @@
--- What the contracts of this crate cite.
+-- The definitions that contracts of this crate cite.
 pub mod Kinds
 pub mod Numbers

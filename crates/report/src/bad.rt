@@ -1,5 +1,5 @@
 // A bad line in words.
-use script::fault::Fault;
+use line::fault::Fault;
 use script::read::BadLine;
 use std::fmt;
 

@@ -1,15 +1,15 @@
 // The calls of a case: one reader for each group of calls with like arguments.
-use crate::args::ends_at;
-use crate::args::kind_at;
-use crate::args::place_at;
-use crate::args::u16_at;
-use crate::args::u32_at;
-use crate::args::value_at;
-use crate::args::word_at;
 use crate::command::Action;
 use crate::command::Call;
-use crate::fault::Fault;
-use crate::fault::Problem;
+use line::args::ends_at;
+use line::args::kind_at;
+use line::args::place_at;
+use line::args::u16_at;
+use line::args::u32_at;
+use line::args::value_at;
+use line::args::word_at;
+use line::fault::Fault;
+use line::fault::Problem;
 use std::alloc::Global;
 use text::hex::TextFault;
 use text::hex::read_hex;

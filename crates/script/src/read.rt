@@ -1,17 +1,17 @@
 // A whole script: each line is a command, is blank, or has a problem that is noted with its line.
-use crate::args::ends_at;
-use crate::args::u32_at;
-use crate::args::word_at;
 use crate::calls::read_call;
 use crate::command::Command;
-use crate::fault::Fault;
-use crate::fault::Problem;
-use crate::fault::ProblemFromAlloc;
 use crate::source::read_source;
-use crate::stage::Sort;
-use crate::stage::Stage;
-use crate::stage::sort_of;
-use crate::stage::take_turn;
+use line::args::ends_at;
+use line::args::u32_at;
+use line::args::word_at;
+use line::fault::Fault;
+use line::fault::Problem;
+use line::fault::ProblemFromAlloc;
+use line::stage::Sort;
+use line::stage::Stage;
+use line::stage::sort_of;
+use line::stage::take_turn;
 use std::alloc::AllocError;
 use std::alloc::Global;
 use text::cut::Line;

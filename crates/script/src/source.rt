@@ -1,12 +1,12 @@
 // The source of a case: a slab or pages, and up to three layers over it.
-use crate::args::u32_at;
-use crate::args::word_at;
 use crate::command::Base;
 use crate::command::Layer;
 use crate::command::SourceSpec;
-use crate::fault::Fault;
-use crate::fault::Problem;
-use crate::fault::ProblemFromRefused;
+use line::args::u32_at;
+use line::args::word_at;
+use line::fault::Fault;
+use line::fault::Problem;
+use line::fault::ProblemFromRefused;
 use std::alloc::Global;
 
 // A layer that begins at this place, and the place behind it.

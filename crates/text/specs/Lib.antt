@@ -1,4 +1,4 @@
--- What the contracts of this crate cite.
+-- The definitions that contracts of this crate cite.
 pub mod Lines
 pub mod Quotes
 pub mod Texts

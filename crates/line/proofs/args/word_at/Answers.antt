@@ -3,8 +3,8 @@ use mathlib.Core.Path.{_≡_, sym, ap, _∙_}
 use Prim.Native.Nat.{_<_}
 use lib.ListN.{length}
 use borrow.Author.Tests.{true-ltb}
-use Rattle.script.proofs.Places.{within}
-use Rattle.script.proofs.args.word_at.Needs as need
+use Rattle.line.proofs.Places.{within}
+use Rattle.line.proofs.args.word_at.Needs as need
 
 pub returns-in-Some : need.returns-in-Some
 returns-in-Some c =

@@ -4,8 +4,14 @@ ghost use Prim.Native.Nat.{_^_, _<_, _≤_};
 ghost use lib.ListN.{length};
 ghost use Rattle.number.specs.Kinds.{kindName, ValueText};
 ghost use Rattle.number.specs.Numbers.{NumberText};
-ghost use Rattle.script.specs.Arguments.{wordAt, Exactly};
+ghost use Rattle.line.specs.Arguments.{wordAt, Exactly, pathFault};
+ghost use Rattle.line.specs.declared.fault.Fault.the-variants.{Memory};
+ghost use Rattle.path.specs.Paths.{PathText};
+ghost use Rattle.path.specs.declared.step.Step.{Step as AStep};
+ghost use Rattle.std.specs.Of.Vec.{vec-items};
 ghost use Rattle.std.specs.Results.{Cases};
+ghost use mathlib.Core.List.{List};
+ghost use mathlib.Core.Logic.{_⊎_};
 use crate::fault::Fault;
 use crate::fault::Problem;
 use number::decimal::NumberFault;
@@ -82,11 +88,21 @@ pub fn value_at(words: &[&str], at: usize, kind: Kind) -> Result<Value, Problem>
     }
 }
 
-pub fn place_at(heap: Global, words: &[&str], at: usize) -> Result<Place, Problem> {
+fn path_fault(fault: PathFault) -> Fault
+    ensures { λ r. ⌜ r ≡ pathFault fault ⌝ }
+{
+    match fault {
+        PathFault::NoSlash | PathFault::BadStep => Fault::BadPath,
+        PathFault::TooLarge => Fault::PathNumberTooLarge,
+        PathFault::Memory => Fault::Memory,
+    }
+}
+
+pub fn place_at(heap: Global, words: &[&str], at: usize) -> Result<Place, Problem>
+    ensures { λ r. ⌜ Cases r (λ p. PathText (wordAt (now (words .entry)) at) (vec-items (p .steps))) (λ e. (e .fault ≡ Memory) ⊎ ((ss : List AStep) → PathText (wordAt (now (words .entry)) at) ss → ⊥)) ⌝ }
+{
     match read_place(heap, word_at(words, at)?) {
         Ok(place) => Ok(place),
-        Err(PathFault::TooLarge) => Err(Fault::PathNumberTooLarge.at(at)),
-        Err(PathFault::Memory) => Err(Fault::Memory.at(at)),
-        Err(_) => Err(Fault::BadPath.at(at)),
+        Err(e) => Err(path_fault(e).at(at)),
     }
 }

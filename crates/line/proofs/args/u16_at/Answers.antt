@@ -1,7 +1,7 @@
 -- Where there is no word, there is no argument.
 use Rattle.std.proofs.shelf.Results.{err-from-errBy}
-use Rattle.script.proofs.Places.{no-number}
-use Rattle.script.proofs.args.u32_at.Needs as need
+use Rattle.line.proofs.Places.{no-number}
+use Rattle.line.proofs.args.u16_at.Needs as need
 
 pub returns-in-Break-word-at : need.returns-in-Break-word-at
 returns-in-Break-word-at c =

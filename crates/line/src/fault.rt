@@ -1,4 +1,5 @@
 // What can be wrong with a line of a script, and with which of its words.
+ghost use mathlib.Core.Path.{_≡_};
 use std::alloc::AllocError;
 use std::alloc::Refused;
 
@@ -35,7 +36,9 @@ pub struct Problem {
 }
 
 impl Fault {
-    pub fn at(self, at: usize) -> Problem {
+    pub fn at(self, at: usize) -> Problem
+        ensures { λ r. ⌜ (r .fault ≡ self) × (r .at ≡ at) ⌝ }
+    {
         Problem { fault: self, at }
     }
 }

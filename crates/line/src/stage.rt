@@ -1,6 +1,6 @@
 // The order of a case's lines: its name, its source, then its calls. A fault does not stop the reading, so that every bad line is found.
 ghost use mathlib.Core.Path.{_≡_};
-ghost use Rattle.script.specs.Order.{right, faulty, afterOutside, afterNamed, afterReady, following};
+ghost use Rattle.line.specs.Order.{right, faulty, afterOutside, afterNamed, afterReady, following};
 use crate::fault::Fault;
 
 // How far a case has come: none is begun, its name is known, its source is known.
