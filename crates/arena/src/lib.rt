@@ -1,4 +1,6 @@
 // An arena: a source of segments with the table of those that it granted.
+#![tactic(auto)]
+
 ghost use Rattle.std.specs.Prelude.{◌≡◌};
 ghost use Rattle.arena.specs.Faults.{source_fault};
 

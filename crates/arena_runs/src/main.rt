@@ -1,4 +1,6 @@
 // The arena at work over each source: words found, granted and refused, objects and landing pads, zeroing, going back to a mark.
+#![tactic(auto)]
+
 use arena::BuilderArena;
 use effects::words::write_word;
 use layout::zeroing::zero_object;
@@ -7,9 +9,9 @@ use quota::Quota;
 use scratch::Scratch;
 use segments::reading::Reading;
 use segments::source::Source;
-use word_slab::Slab;
 use std::io;
 use table::SegmentTable;
+use word_slab::Slab;
 
 // A step of a script: words anywhere, an object for a slot in a segment, a landing pad for a child in a segment, a word written, an
 // object zeroed, a mark set, going back to it, one word after another while there is space, all words shown.

@@ -1,4 +1,6 @@
 // Runs scripts through the library, good lines and bad ones, and prints what it makes of them.
+#![tactic(auto)]
+
 use report::bad::Told;
 use report::command::Plan;
 use script::read::read_script;

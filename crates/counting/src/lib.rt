@@ -1,4 +1,6 @@
 // The counting layer, for tests: it passes every call on to the source below, and counts the accepted writes and grants.
+#![tactic(auto)]
+
 ghost use Rattle.std.specs.Prelude.{◌≡◌, [], replicate, if◌then◌else◌, Some, None, nat_lt, slice_index};
 ghost use Rattle.segments.specs.Calls.{Written, Granted};
 ghost use Rattle.counting.specs.Tally.{more, tally, struck, written};

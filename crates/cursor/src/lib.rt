@@ -1,5 +1,7 @@
 // A cursor walks what a slot reaches, over any reading interface: into each object before its children, one event at a time. It has no
 // memory of words, so whoever walks may change words that the walk has left.
+#![tactic(auto)]
+
 ghost use Rattle.std.specs.Prelude.{◌≡◌, ◌≤◌, length};
 
 use walk::landing::Landing;

@@ -1,4 +1,6 @@
 // Numbers, flags and nothing as the elements of lists: their kinds, and their bits in a word.
+#![tactic(auto)]
+
 ghost use Rattle.std.specs.Prelude.{ℕ, ◌+◌, ◌<◌, ◌≤◌, ◌^◌, ◌≡◌};
 ghost use Rattle.wire.specs.Sizes.{code_of};
 ghost use Rattle.wire.specs.Elements.{patched, element_word, element_bit, element_in, element_put};

@@ -1,6 +1,8 @@
 // The law of calls: what each call does between the state before it and the state after it, and what follows for every run. All of it
 // is definitions and proofs; each function here names theorems, so that the check asks for their proofs. X and Y stand for types of
 // sources.
+#![tactic(auto)]
+
 ghost use Rattle.law.specs.Cases.{WorkedCases};
 ghost use Rattle.law.specs.Drafts.{RunsStand, TablesStand};
 ghost use Rattle.law.specs.Enough.{ExactWordsKeepTheLaw};

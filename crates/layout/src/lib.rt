@@ -1,2 +1,4 @@
 // Objects in the words of a source.
+#![tactic(auto)]
+
 pub mod zeroing;

@@ -1,4 +1,6 @@
 // The public face of the builder: drafts of messages, and the calls on them.
+#![tactic(auto)]
+
 pub mod draft;
 mod editing;
 pub mod reading;

@@ -1,4 +1,6 @@
 // The page source: eight pages of 256 words inside it, granted one by one.
+#![tactic(auto)]
+
 ghost use Rattle.std.specs.Prelude.{◌≡◌, ℕ, ◌+◌, ◌<◌, ◌≤◌, [], length, take, slice_index_or};
 ghost use Rattle.segments.specs.Memory.{with_zeros};
 ghost use Rattle.pages.specs.Bounds.{page_bounds};

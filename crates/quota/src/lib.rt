@@ -1,4 +1,6 @@
 // The quota layer: the source below, as long as its segments have at most a limit of words in all.
+#![tactic(auto)]
+
 ghost use Rattle.std.specs.Prelude.{◌≡◌, ◌+◌, [], nat_le};
 ghost use Rattle.segments.specs.Calls.{Written};
 ghost use Rattle.quota.specs.Bounds.{quota_bounds};

@@ -1,2 +1,4 @@
 // An object is rebuilt in a larger shape.
+#![tactic(auto)]
+
 pub mod rebuild;

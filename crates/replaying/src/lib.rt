@@ -1,4 +1,6 @@
 // Lists of calls, made one after another on a draft.
+#![tactic(auto)]
+
 pub mod build;
 pub mod calls;
 pub mod numbers;

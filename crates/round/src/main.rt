@@ -1,4 +1,6 @@
 // The command line tool: reads a script of calls and says what it would do.
+#![tactic(auto)]
+
 ghost use Rattle.std.specs.Prelude.{ℕ, ◌≤◌, length};
 
 use anyhow::anyhow;

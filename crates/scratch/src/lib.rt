@@ -1,4 +1,6 @@
 // The scratch layer: 256 words of its own, granted first, and then whatever the source below grants.
+#![tactic(auto)]
+
 ghost use Rattle.std.specs.Prelude.{◌≡◌, true, false, [], length, replicate};
 ghost use Rattle.segments.specs.Memory.{with_zeros};
 ghost use Rattle.scratch.specs.Bounds.{scratch_bounds};

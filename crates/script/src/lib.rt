@@ -1,4 +1,6 @@
 // Scripts: cases of calls on a message, one command a line, each read into a typed command or a typed fault.
+#![tactic(auto)]
+
 pub mod calls;
 pub mod command;
 pub mod read;

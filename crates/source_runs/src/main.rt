@@ -1,12 +1,14 @@
 // The sources at work: offers at their edges, grants until they run dry, layers in both orders, words that were not zero.
+#![tactic(auto)]
+
 use counting::Counting;
 use pages::Pages;
 use quota::Quota;
 use scratch::Scratch;
 use segments::reading::Reading;
 use segments::source::Source;
-use word_slab::Slab;
 use std::io;
+use word_slab::Slab;
 
 // What is offered for each of some minima, and what a grant answers.
 fn grants<S: Source, R: Print>(rt: &R, s: &mut S, minima: &[u32]) -> io::Result<()> {

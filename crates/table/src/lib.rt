@@ -1,4 +1,6 @@
 // The table of a builder's segments, and the rule by which new words are placed.
+#![tactic(auto)]
+
 ghost use Rattle.std.specs.Prelude.{◌≡◌, ℕ, ◌≤◌, length};
 ghost use Rattle.table.specs.Entries.{AllBounded};
 

@@ -1,5 +1,7 @@
 // What the words of a message show, and what edits of words do to it. All of it is definitions and proofs; each function here names
 // laws, so that the check asks for their proofs.
+#![tactic(auto)]
+
 ghost use Rattle.tree.specs.Laws.{Laws};
 ghost use Rattle.tree.specs.Zeroing.{ZeroingWalks};
 

@@ -1,4 +1,6 @@
 // Reading a message through any reading interface: where slots lead, what they lead to, and where a path ends.
+#![tactic(auto)]
+
 pub mod landing;
 pub mod path;
 pub mod shape;

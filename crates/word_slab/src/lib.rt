@@ -1,4 +1,6 @@
 // The slab: a source that cuts its segments one after another from words that the caller lends.
+#![tactic(auto)]
+
 ghost use Rattle.std.specs.Prelude.{◌≡◌, ℕ, ◌+◌, ◌<◌, ◌≤◌, [], length, take, drop, replicate, slice_index};
 ghost use Rattle.segments.specs.Memory.{with_zeros};
 ghost use Rattle.word_slab.specs.Bounds.{slab_bounds};
