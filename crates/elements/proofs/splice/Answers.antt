@@ -6,14 +6,14 @@ use Rattle.wire.specs.Elements.{picked, patched}
 use Rattle.wire.proofs.Splices.{shifted_back, shifted_up, picked_le, patched_lt, swapped}
 use Rattle.elements.proofs.splice.Goals as goal
 
-pub overflow-sub-result : goal.overflow-sub-result
-overflow-sub-result c =
+pub overflow_sub-result : goal.overflow_sub-result
+overflow_sub-result c =
     let e = shifted_back c.args.word c.args.k c.args.n c.low_bits-old.result c.ranges.word.fits c.low_bits-old.ensures.value in
     let l = picked_le c.args.word c.args.k c.args.n in
     omega arith
 
-pub overflow-add-result : goal.overflow-add-result
-overflow-add-result c =
+pub overflow_add-result : goal.overflow_add-result
+overflow_add-result c =
     let e = shifted_back c.args.word c.args.k c.args.n c.low_bits-old.result c.ranges.word.fits c.low_bits-old.ensures.value in
     let f = shifted_up c.args.k c.args.n c.args.b c.requires.room c.requires.bits in
     let s = swapped c.args.word c.args.k c.args.n c.args.b in

@@ -3,7 +3,7 @@ use Rattle.std.proofs.Common.{refl, arith}
 use Rattle.arena.proofs.Grants.{anywhere_small}
 use Rattle.arena.proofs.BuilderArena.place.Goals as goal
 
-pub overflow-add-result : goal.overflow-add-result
-overflow-add-result g c =
-    let l = anywhere_small c.allocate.new.self _ _ _ (c.in-ok-s.s, c.in-ok-s.w) refl c.in-ok-s.ensures.outcome in
+pub overflow_add-result : goal.overflow_add-result
+overflow_add-result g c =
+    let l = anywhere_small c.allocate.new.self _ _ _ (c.in_ok-s.s, c.in_ok-s.w) refl c.in_ok-s.ensures.outcome in
     record { fits = omega arith }

@@ -6,9 +6,9 @@ use Rattle.deciding.specs.declared.edit.Edit.TheVariants.{GetStruct}
 use Rattle.deciding.proofs.Settling.{settled, settled_grown, value_none}
 use Rattle.deciding.proofs.making.get_struct.Goals as goal
 
-pub returns-in-default : goal.returns-in-default
-returns-in-default c = λ bs u s.
-    rw (value_none c.args.held u c.in-default.is s)
+pub returns-in_default : goal.returns-in_default
+returns-in_default c = λ bs u s.
+    rw (value_none c.args.held u c.in_default.is s)
     (settled (GetStruct c.args.size) bs (λ w. refl) (λ s. refl) _ c.args.held null _ refl refl (c.fresh.ensures c.args.held null))
 
 pub returns-in-None : goal.returns-in-None

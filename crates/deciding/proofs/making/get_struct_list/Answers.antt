@@ -6,10 +6,10 @@ use Rattle.deciding.specs.declared.edit.Edit.TheVariants.{GetStructList}
 use Rattle.deciding.proofs.Settling.{settled_grown, value_none}
 use Rattle.deciding.proofs.making.get_struct_list.Goals as goal
 
-pub returns-in-default : goal.returns-in-default
+pub returns-in_default : goal.returns-in_default
 unfolding effect
-returns-in-default c = λ bs u s.
-    rw (value_none c.args.held u c.in-default.is s)
+returns-in_default c = λ bs u s.
+    rw (value_none c.args.held u c.in_default.is s)
     (record { ruled = refl; making_is = refl; says_is = refl; from = tt })
 
 pub returns-in-None : goal.returns-in-None

@@ -10,21 +10,21 @@ use Rattle.deciding.specs.Deciding.{number_call}
 use Rattle.deciding.proofs.Verdicts.{path_wrong, number_wrong, lodges}
 use Rattle.deciding.proofs.number.decide_number.Goals as goal
 
-pub returns-in-err-site : goal.returns-in-err-site
-returns-in-err-site g c =
-    let p = err_from_is_err_and c.from-residual.result c.from-residual.ensures.1 in
+pub returns-in_err-site : goal.returns-in_err-site
+returns-in_err-site g c =
+    let p = err_from_is_err_and c.from_residual.result c.from_residual.ensures.1 in
     rw (p.1, p.2)
-    (record { sound = λ a v small shown x. path_wrong v (number_call (steps_of c.args.path.now) (home_of c.args.home) g.E.PrimitiveElement.code c.args.index x) (answer_of c.in-err-site.field-0.0) (c.in-err-site.ensures.sound a v small shown) })
+    (record { sound = λ a v small shown x. path_wrong v (number_call (steps_of c.args.path.now) (home_of c.args.home) g.E.PrimitiveElement.code c.args.index x) (answer_of c.in_err-site.field-0.0) (c.in_err-site.ensures.sound a v small shown) })
 
-pub returns-in-err-held : goal.returns-in-err-held
-returns-in-err-held g c =
+pub returns-in_err-held : goal.returns-in_err-held
+returns-in_err-held g c =
     let H : Memory = word (g.R.Reading.segments c.args.reading.now) in
-    let p = err_from_is_err_and c.from-residual-in-err-held.result c.from-residual-in-err-held.ensures.1 in
+    let p = err_from_is_err_and c.from_residual-in_err-held.result c.from_residual-in_err-held.ensures.1 in
     rw (p.1, p.2)
     (record {
       sound = λ a v small shown.
-          let m = c.in-ok-site.ensures.sound a v small shown in
-          number_wrong H v (steps_of c.args.path.now) (home_of c.args.home) (code_of c.element_size.result) g.E.PrimitiveElement.code c.args.index c.element_size.ensures.value c.in-err-held.field-0.0 m.judged (c.in-err-held.ensures (value_at v (steps_of c.args.path.now)) m.shape);
+          let m = c.in_ok-site.ensures.sound a v small shown in
+          number_wrong H v (steps_of c.args.path.now) (home_of c.args.home) (code_of c.element_size.result) g.E.PrimitiveElement.code c.args.index c.element_size.ensures.value c.in_err-held.field-0.0 m.judged (c.in_err-held.ensures (value_at v (steps_of c.args.path.now)) m.shape);
     })
 
 pub returns : goal.returns
@@ -32,7 +32,7 @@ returns g c =
     let H : Memory = word (g.R.Reading.segments c.args.reading.now) in
     record {
       sound = λ a v small shown.
-          let m = c.in-ok-site.ensures.sound a v small shown in
-          let k = c.in-ok-held.ensures (value_at v (steps_of c.args.path.now)) m.shape in
-          lodges H v (steps_of c.args.path.now) (home_of c.args.home) (code_of c.element_size.result) g.E.PrimitiveElement.code c.args.index c.element_size.ensures.value c.in-ok-site.site c.in-ok-held.held m k.0 k.1;
+          let m = c.in_ok-site.ensures.sound a v small shown in
+          let k = c.in_ok-held.ensures (value_at v (steps_of c.args.path.now)) m.shape in
+          lodges H v (steps_of c.args.path.now) (home_of c.args.home) (code_of c.element_size.result) g.E.PrimitiveElement.code c.args.index c.element_size.ensures.value c.in_ok-site.site c.in_ok-held.held m k.0 k.1;
     }

@@ -11,10 +11,10 @@ use Rattle.judging.proofs.Arrivals.{shape_found}
 use Rattle.judging.proofs.Looking.{nothing_there, number_refused, number_there, picked_small}
 use Rattle.judging.proofs.looks.number_at.Goals as goal
 
-pub returns-in-default : goal.returns-in-default
-returns-in-default g c =
+pub returns-in_default : goal.returns-in_default
+returns-in_default g c =
     let H : Memory = word (g.R.Reading.segments c.args.reading.now) in
-    record { sound = λ a u small held shown. nothing_there H a c.args.site.segment c.args.site.word (home_of c.args.home) g.E.PrimitiveElement.code c.args.index u c.args.site.object c.in-default.is held shown; back = tt }
+    record { sound = λ a u small held shown. nothing_there H a c.args.site.segment c.args.site.word (home_of c.args.home) g.E.PrimitiveElement.code c.args.index u c.args.site.object c.in_default.is held shown; back = tt }
 
 pub returns-in-Some-no_number : goal.returns-in-Some-no_number
 returns-in-Some-no_number g c =
@@ -42,7 +42,7 @@ returns g c =
     record {
       sound = λ a u small held shown.
           let leads : Leads H G W c.in-Some.held = subst (Holds H G W) c.in-Some.is held in
-          let none = c.in-default-no_number.ensures.value u (shape_found H a G W u (Some c.in-Some.held) shown leads) in
+          let none = c.in_default-no_number.ensures.value u (shape_found H a G W u (Some c.in-Some.held) shown leads) in
           ap value back ∙ number_there H a G W h code i c.in-Some.held leads small (code_of c.element_size-element.result) c.element_size-element.ensures.value u c.number_word.result _ x shown (sym none) c.number_word.ensures.value refl c.word_at.ensures.value;
       back = ap g.E.PrimitiveElement.value back ∙ sym c.get_element.ensures.value;
     }

@@ -11,12 +11,12 @@ use Rattle.judging.proofs.Arrivals.{slot_shows}
 use Rattle.judging.proofs.Looking.{look_fine, look_wrong}
 use Rattle.judging.proofs.looks.read_number.Goals as goal
 
-pub returns-in-err-site : goal.returns-in-err-site
-returns-in-err-site g c =
+pub returns-in_err-site : goal.returns-in_err-site
+returns-in_err-site g c =
     let q : Query = number (home_of c.args.home) g.E.PrimitiveElement.code c.args.index in
-    let p = err_from_is_err_and c.from-residual.result c.from-residual.ensures.1 in
+    let p = err_from_is_err_and c.from_residual.result c.from_residual.ensures.1 in
     rw (p.1, p.2)
-    (record { sound = λ a v small shown. sym (look_wrong v (steps_of c.args.path.now) q (answer_of c.in-err-site.field-0.0) (c.in-err-site.ensures.sound a v small shown)); back = tt })
+    (record { sound = λ a v small shown. sym (look_wrong v (steps_of c.args.path.now) q (answer_of c.in_err-site.field-0.0) (c.in_err-site.ensures.sound a v small shown)); back = tt })
 
 pub returns : goal.returns
 returns g c =
@@ -24,8 +24,8 @@ returns g c =
     let q : Query = number (home_of c.args.home) g.E.PrimitiveElement.code c.args.index in
     record {
       sound = λ a v small shown.
-          let m = c.in-ok-site.ensures.sound a v small shown in
-          let here = slot_shows H a v (steps_of c.args.path.now) (c.in-ok-site.site.segment, c.in-ok-site.site.word) shown m.judged m.slot in
+          let m = c.in_ok-site.ensures.sound a v small shown in
+          let here = slot_shows H a v (steps_of c.args.path.now) (c.in_ok-site.site.segment, c.in_ok-site.site.word) shown m.judged m.slot in
           c.number_at.ensures.sound a (value_at v (steps_of c.args.path.now)) small m.held here ∙ sym (look_fine v (steps_of c.args.path.now) q m.judged);
       back = c.number_at.ensures.back;
     }

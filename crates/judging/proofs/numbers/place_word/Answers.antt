@@ -3,8 +3,8 @@ use Rattle.std.proofs.Common.{◌*◌, ◌<◌, ◌≤◌, arith, rules}
 use Rattle.std.proofs.lemmas.Nat.{mul-le}
 use Rattle.judging.proofs.numbers.place_word.Goals as goal
 
-pub overflow-add-result-in-Composite : goal.overflow-add-result-in-Composite
-overflow-add-result-in-Composite c =
+pub overflow_add-result-in-Composite : goal.overflow_add-result-in-Composite
+overflow_add-result-in-Composite c =
     let d : c.in-Composite.size.data < 65536 = search rules in
     let p : c.in-Composite.size.pointers < 65536 = search rules in
     let i : c.args.i < 4294967296 = search rules in

@@ -36,7 +36,7 @@ returns g c =
     let N : Memory = word (g.S.Reading.segments c.loop-event.source) in
     record {
       cleared = λ a u small shown deep once.
-          walk_ends H a c.args.g c.args.w u N (stack c.loop-event.cursor) c.in-default.ensures.event.0 (c.loop-event.invariant.0 a u small shown deep once);
+          walk_ends H a c.args.g c.args.w u N (stack c.loop-event.cursor) c.in_default.ensures.event.0 (c.loop-event.invariant.0 a u small shown deep once);
       lengths = c.loop-event.invariant.1;
       offers = c.loop-event.invariant.2;
       first = c.loop-event.invariant.3;

@@ -3,7 +3,7 @@ use Rattle.std.proofs.lemmas.Result.{err_from_is_err_and}
 use Rattle.line.proofs.Places.{no_kind}
 use Rattle.line.proofs.args.kind_at.Goals as goal
 
-pub returns-in-err-word_at : goal.returns-in-err-word_at
-returns-in-err-word_at c =
-    let p = err_from_is_err_and c.from-residual.result c.from-residual.ensures.1 in
-    rw p.1 (no_kind _ _ c.in-err-word_at.ensures)
+pub returns-in_err-word_at : goal.returns-in_err-word_at
+returns-in_err-word_at c =
+    let p = err_from_is_err_and c.from_residual.result c.from_residual.ensures.1 in
+    rw p.1 (no_kind _ _ c.in_err-word_at.ensures)

@@ -7,12 +7,12 @@ use Rattle.making.proofs.Filling.{new_went, new_failed, inside_later}
 use Rattle.law.proofs.Rooms.{after_shape}
 use Rattle.making.proofs.init.init_object.Goals as goal
 
-pub returns-in-err-s : goal.returns-in-err-s
-returns-in-err-s g c =
-    let p = err_from_is_err_and c.from-residual.result c.from-residual.ensures.1 in
+pub returns-in_err-s : goal.returns-in_err-s
+returns-in_err-s g c =
+    let p = err_from_is_err_and c.from_residual.result c.from_residual.ensures.1 in
     record {
       outcome = λ u slot fit.
-          let k = c.in-err-s.ensures.outcome fit slot.inside in
+          let k = c.in_err-s.ensures.outcome fit slot.inside in
           rw (p.1, p.2) (new_failed _ _ _ c.args.g c.args.w u _ _ slot k.1 k.2 (shape_meant c.args.shape) k.0);
     }
 
@@ -20,8 +20,8 @@ pub returns : goal.returns
 returns g c =
     record {
       outcome = λ u slot fit.
-          let k = c.in-ok-s.ensures.outcome fit slot.inside in
-          let there = c.in-ok-s.ensures.roomy fit slot.inside in
+          let k = c.in_ok-s.ensures.outcome fit slot.inside in
+          let there = c.in_ok-s.ensures.roomy fit slot.inside in
           let sh = shape_meant c.args.shape in
           let f = c.fill_slot.ensures in
           new_went _ _ _ _ c.args.g c.args.w u _ sh k.0 k.1 f.rewritten

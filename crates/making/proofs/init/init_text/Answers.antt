@@ -8,13 +8,13 @@ use Rattle.making.proofs.Filling.{text_fits, text_filled, text_placed, text_fail
 use Rattle.law.proofs.Rooms.{after_shape}
 use Rattle.making.proofs.init.init_text.Goals as goal
 
-pub returns-in-err-s : goal.returns-in-err-s
-returns-in-err-s g c =
-    let p = err_from_is_err_and c.from-residual.result c.from-residual.ensures.1 in
+pub returns-in_err-s : goal.returns-in_err-s
+returns-in_err-s g c =
+    let p = err_from_is_err_and c.from_residual.result c.from_residual.ensures.1 in
     record {
       outcome = λ u slot short.
           let is = c.text_shape-shape.ensures.value short in
-          let k = c.in-err-s.ensures.outcome (text_fits c.args.bytes.now _ is short) slot.inside in
+          let k = c.in_err-s.ensures.outcome (text_fits c.args.bytes.now _ is short) slot.inside in
           rw (p.1, p.2) (text_failed _ _ _ c.args.g c.args.w u _ _ slot k.1 k.2 c.args.bytes.now (text_unplaced _ _ _ c.args.g c.args.w c.args.bytes.now _ _ is k.0));
     }
 
@@ -24,8 +24,8 @@ returns g c =
       outcome = λ u slot short.
           let is = c.text_shape-shape.ensures.value short in
           let fit = text_fits c.args.bytes.now _ is short in
-          let k = c.in-ok-s.ensures.outcome fit slot.inside in
-          let there = c.in-ok-s.ensures.roomy fit slot.inside in
+          let k = c.in_ok-s.ensures.outcome fit slot.inside in
+          let there = c.in_ok-s.ensures.roomy fit slot.inside in
           let f = c.fill_slot.ensures in
           let t = c.spell.ensures in
           let sized = went_sized _ _ _ _ _ k.0 slot.sized in

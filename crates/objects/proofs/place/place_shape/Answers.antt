@@ -15,16 +15,16 @@ returns-then-has_no_words g c =
       roomy = λ fit inside. none_room c.args.g c.args.w (shape_meant c.args.shape) _ e inside;
     }
 
-pub returns-in-err-s : goal.returns-in-err-s
-returns-in-err-s g c =
-    let p = err_from_is_err_and c.from-residual.result c.from-residual.ensures.1 in
+pub returns-in_err-s : goal.returns-in_err-s
+returns-in_err-s g c =
+    let p = err_from_is_err_and c.from_residual.result c.from_residual.ensures.1 in
     let e = sym c.has_no_words.ensures.value ∙ c.if-has_no_words.false in
     record {
       outcome = λ fit inside.
           let there = there_is (table_of c.args.arena.now.table) c.args.g c.args.w inside in
           let n = c.object_words.ensures.value fit in
           let b = c.object_words.ensures.small fit in
-          let k = c.in-err-s.ensures.outcome there (omega arith) in
+          let k = c.in_err-s.ensures.outcome there (omega arith) in
           rw (p.1, p.2) (some_none c.args.g c.args.w (shape_meant c.args.shape) _ _ n e _ _ _ k);
       roomy = λ fit inside. rw p.1 tt;
     }
@@ -37,12 +37,12 @@ returns g c =
           let there = there_is (table_of c.args.arena.now.table) c.args.g c.args.w inside in
           let n = c.object_words.ensures.value fit in
           let b = c.object_words.ensures.small fit in
-          let k = c.in-ok-s.ensures.outcome there (omega arith) in
+          let k = c.in_ok-s.ensures.outcome there (omega arith) in
           (some_went c.args.g c.args.w (shape_meant c.args.shape) _ _ n e _ _ _ k.0, k.1);
       roomy = λ fit inside.
           let there = there_is (table_of c.args.arena.now.table) c.args.g c.args.w inside in
           let n = c.object_words.ensures.value fit in
           let b = c.object_words.ensures.small fit in
-          let k = c.in-ok-s.ensures.outcome there (omega arith) in
+          let k = c.in_ok-s.ensures.outcome there (omega arith) in
           some_room c.args.g c.args.w (shape_meant c.args.shape) _ _ n e _ _ _ (omega arith) k.0;
     }

@@ -6,4 +6,4 @@ use Rattle.path.proofs.back.reread_place.Goals as goal
 
 pub returns : goal.returns
 returns c =
-    path_again _ _ _ (c.as_str.ensures.value ∙ c.in-ok-text.ensures.ok) (subst AllFit c.as_slice.ensures.value c.steps_fit.ensures) c.read_place.ensures
+    path_again _ _ _ (c.as_str.ensures.value ∙ c.in_ok-text.ensures.ok) (subst AllFit c.as_slice.ensures.value c.steps_fit.ensures) c.read_place.ensures

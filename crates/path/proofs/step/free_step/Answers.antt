@@ -14,37 +14,37 @@ cut c = MatchOption-at_some _ _ _ c.in-Some.is (split_parts 58 _ _ c.split_once.
 cut-2 : (c : In-Some-split_once) → (c.in-Some.rest.now ≡ c.in-Some-split_once.second.now ++ (58 ∷ c.in-Some-split_once.third.now)) × Lacks 58 c.in-Some-split_once.second.now
 cut-2 c = MatchOption-at_some _ _ _ c.in-Some-split_once.is (split_parts 58 _ _ c.split_once-2.ensures.cases (lit< tt))
 
-pub returns-in-default : goal.returns-in-default
-returns-in-default c = no_free _ (MatchOption-at_none _ _ c.in-default.is (split_parts 58 _ _ c.split_once.ensures.cases (lit< tt)))
+pub returns-in_default : goal.returns-in_default
+returns-in_default c = no_free _ (MatchOption-at_none _ _ c.in_default.is (split_parts 58 _ _ c.split_once.ensures.cases (lit< tt)))
 
-pub returns-in-default-split_once : goal.returns-in-default-split_once
-returns-in-default-split_once c =
-    let k = cut (goal.at.returns-in-default-split_once c).In-Some in
-    no_second _ _ _ k.0 k.1 (MatchOption-at_none _ _ c.in-default-split_once.is (split_parts 58 _ _ c.split_once-2.ensures.cases (lit< tt)))
+pub returns-in_default-split_once : goal.returns-in_default-split_once
+returns-in_default-split_once c =
+    let k = cut (goal.at.returns-in_default-split_once c).In-Some in
+    no_second _ _ _ k.0 k.1 (MatchOption-at_none _ _ c.in_default-split_once.is (split_parts 58 _ _ c.split_once-2.ensures.cases (lit< tt)))
 
-pub returns-in-err-kind : goal.returns-in-err-kind
-returns-in-err-kind c =
-    let p = err_from_is_err_and c.from-residual.result c.from-residual.ensures.1 in
-    let k = cut (goal.at.returns-in-err-kind c).In-Some in
-    let m = cut-2 (goal.at.returns-in-err-kind c).In-Some-split_once in
-    rw p.1 (λ s t. let q = free_only _ _ _ _ _ k.0 k.1 m.0 m.1 s t in refused _ _ _ c.in-err-kind.ensures q.0.0 q.0.1)
+pub returns-in_err-kind : goal.returns-in_err-kind
+returns-in_err-kind c =
+    let p = err_from_is_err_and c.from_residual.result c.from_residual.ensures.1 in
+    let k = cut (goal.at.returns-in_err-kind c).In-Some in
+    let m = cut-2 (goal.at.returns-in_err-kind c).In-Some-split_once in
+    rw p.1 (λ s t. let q = free_only _ _ _ _ _ k.0 k.1 m.0 m.1 s t in refused _ _ _ c.in_err-kind.ensures q.0.0 q.0.1)
 
-pub returns-in-err-element : goal.returns-in-err-element
-returns-in-err-element c =
-    let p = err_from_is_err_and c.from-residual-in-err-element.result c.from-residual-in-err-element.ensures.1 in
-    let k = cut (goal.at.returns-in-err-element c).In-Some in
-    let m = cut-2 (goal.at.returns-in-err-element c).In-Some-split_once in
-    rw p.1 (λ s t. let q = free_only _ _ _ _ _ k.0 k.1 m.0 m.1 s t in refused _ _ _ c.in-err-element.ensures q.1.0 q.1.1)
+pub returns-in_err-element : goal.returns-in_err-element
+returns-in_err-element c =
+    let p = err_from_is_err_and c.from_residual-in_err-element.result c.from_residual-in_err-element.ensures.1 in
+    let k = cut (goal.at.returns-in_err-element c).In-Some in
+    let m = cut-2 (goal.at.returns-in_err-element c).In-Some-split_once in
+    rw p.1 (λ s t. let q = free_only _ _ _ _ _ k.0 k.1 m.0 m.1 s t in refused _ _ _ c.in_err-element.ensures q.1.0 q.1.1)
 
-pub returns-in-err-pointer : goal.returns-in-err-pointer
-returns-in-err-pointer c =
-    let p = err_from_is_err_and c.from-residual-in-err-pointer.result c.from-residual-in-err-pointer.ensures.1 in
-    let k = cut (goal.at.returns-in-err-pointer c).In-Some in
-    let m = cut-2 (goal.at.returns-in-err-pointer c).In-Some-split_once in
-    rw p.1 (λ s t. let q = free_only _ _ _ _ _ k.0 k.1 m.0 m.1 s t in refused _ _ _ c.in-err-pointer.ensures q.2.0 q.2.1)
+pub returns-in_err-pointer : goal.returns-in_err-pointer
+returns-in_err-pointer c =
+    let p = err_from_is_err_and c.from_residual-in_err-pointer.result c.from_residual-in_err-pointer.ensures.1 in
+    let k = cut (goal.at.returns-in_err-pointer c).In-Some in
+    let m = cut-2 (goal.at.returns-in_err-pointer c).In-Some-split_once in
+    rw p.1 (λ s t. let q = free_only _ _ _ _ _ k.0 k.1 m.0 m.1 s t in refused _ _ _ c.in_err-pointer.ensures q.2.0 q.2.1)
 
 pub returns : goal.returns
 returns c =
     let k = cut (goal.at.returns c).In-Some in
     let m = cut-2 (goal.at.returns c).In-Some-split_once in
-    free_made _ _ _ _ _ _ _ _ k.0 m.0 c.in-ok-kind.ensures c.in-ok-element.ensures c.in-ok-pointer.ensures
+    free_made _ _ _ _ _ _ _ _ k.0 m.0 c.in_ok-kind.ensures c.in_ok-element.ensures c.in_ok-pointer.ensures

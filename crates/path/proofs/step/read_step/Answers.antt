@@ -22,7 +22,7 @@ returns-in-Some-strip_prefix-2 c =
 
 pub returns : goal.returns
 returns c =
-    let p = MatchOption-at_none _ _ c.in-default.is (strip_prefix_char 112 _ _ c.strip_prefix.ensures.cases (lit< tt)) in
-    let e = MatchOption-at_none _ _ c.in-default-strip_prefix.is (strip_prefix_char 101 _ _ c.strip_prefix-2.ensures.cases (lit< tt)) in
-    let r = MatchOption-at_none _ _ c.in-default-strip_prefix-2.is (strip_prefix_char 114 _ _ c.strip_prefix-3.ensures.cases (lit< tt)) in
+    let p = MatchOption-at_none _ _ c.in_default.is (strip_prefix_char 112 _ _ c.strip_prefix.ensures.cases (lit< tt)) in
+    let e = MatchOption-at_none _ _ c.in_default-strip_prefix.is (strip_prefix_char 101 _ _ c.strip_prefix-2.ensures.cases (lit< tt)) in
+    let r = MatchOption-at_none _ _ c.in_default-strip_prefix-2.is (strip_prefix_char 114 _ _ c.strip_prefix-3.ensures.cases (lit< tt)) in
     exactly_like _ (λ s q. inr (inr (inr q))) (λ s. free_text_only _ s p e r) c.free_step.ensures

@@ -9,12 +9,12 @@ use Rattle.performing.proofs.Making.{number_makes}
 use Rattle.performing.proofs.Wholes.{slot_there, whole_went, no_root, counts_small, number_there, leads_there, making_there}
 use Rattle.performing.proofs.number.root_and_set.Goals as goal
 
-pub returns-in-err-ensure_root : goal.returns-in-err-ensure_root
-returns-in-err-ensure_root g c =
-    let p = err_from_is_err_and c.from-residual.result c.from-residual.ensures.1 in
+pub returns-in_err-ensure_root : goal.returns-in_err-ensure_root
+returns-in_err-ensure_root g c =
+    let p = err_from_is_err_and c.from_residual.result c.from_residual.ensures.1 in
     record {
       outcome = λ v k holds ready.
-          let f = c.in-err-ensure_root.ensures.outcome in
+          let f = c.in_err-ensure_root.ensures.outcome in
           rw (p.1, p.2) (no_root _ _ _ v k _ _ holds f.0 f.1 f.2);
     }
 
@@ -22,7 +22,7 @@ pub returns : goal.returns
 returns g c =
     record {
       outcome = λ v k holds ready.
-          let f = c.in-ok-ensure_root.ensures.outcome in
+          let f = c.in_ok-ensure_root.ensures.outcome in
           let small = counts_small c.ensure_root.new.arena.table in
           let slot = slot_there _ _ _ v k _ holds f.0 f.1 small ready.judged in
           let leads = leads_there _ _ v k c.args.held (home_of c.args.home) _ c.args.index _ f.1 ready in

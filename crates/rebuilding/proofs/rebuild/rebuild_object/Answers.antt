@@ -9,9 +9,9 @@ use Rattle.rebuilding.proofs.Rebuilding.{fails_at_once}
 use Rattle.rebuilding.proofs.Marked.{fails_by, went_by}
 use Rattle.rebuilding.proofs.rebuild.rebuild_object.Goals as goal
 
-pub returns-in-err-s : goal.returns-in-err-s
-returns-in-err-s g c =
-    let p = err_from_is_err_and c.from-residual.result c.from-residual.ensures.1 in
+pub returns-in_err-s : goal.returns-in_err-s
+returns-in_err-s g c =
+    let p = err_from_is_err_and c.from_residual.result c.from_residual.ensures.1 in
     record {
       outcome = λ u slot leads larger fits.
           rw (p.1, p.2)
@@ -20,28 +20,28 @@ returns-in-err-s g c =
           (state_of (meant g.S.Reading.segments g.S.Source.offers g.S.Source.first) c.place_shape.new.arena)
           c.args.g c.args.w (shape_meant c.args.held.shape) (shape_meant c.args.larger) u
           (size (shape_meant c.args.larger) + 1)
-          c.in-err-s.field-0.0.minimum
-          slot leads.live leads.shaped (c.in-err-s.ensures.outcome fits slot.inside));
+          c.in_err-s.field-0.0.minimum
+          slot leads.live leads.shaped (c.in_err-s.ensures.outcome fits slot.inside));
     }
 
-pub returns-in-err-move_children : goal.returns-in-err-move_children
-returns-in-err-move_children g c =
-    let p = err_from_is_err_and c.from-residual-in-err-move_children.result c.from-residual-in-err-move_children.ensures.1 in
+pub returns-in_err-move_children : goal.returns-in_err-move_children
+returns-in_err-move_children g c =
+    let p = err_from_is_err_and c.from_residual-in_err-move_children.result c.from_residual-in_err-move_children.ensures.1 in
     let o = c.open_larger.ensures in
     record {
       outcome = λ u slot leads larger fits.
-          let k = c.in-ok-s.ensures in
+          let k = c.in_ok-s.ensures in
           rw (p.1, p.2)
           (fails_by (meant g.S.Reading.segments g.S.Source.offers g.S.Source.first)
           (state_of (meant g.S.Reading.segments g.S.Source.offers g.S.Source.first) c.args.arena.now)
           (state_of (meant g.S.Reading.segments g.S.Source.offers g.S.Source.first) c.place_shape.new.arena)
           (state_of (meant g.S.Reading.segments g.S.Source.offers g.S.Source.first) c.open_larger.new.arena)
-          c.args.arena.now.table c.args.g c.args.w c.in-ok-s.s c.in-ok-s.t
+          c.args.arena.now.table c.args.g c.args.w c.in_ok-s.s c.in_ok-s.t
           (landing_of c.args.held.landing) (shape_meant c.args.held.shape) (shape_meant c.args.larger) u
           refl slot leads.live leads.lands leads.shaped larger fits (k.outcome fits slot.inside) (k.roomy fits slot.inside) o.rewritten o.words
           (state_of (meant g.S.Reading.segments g.S.Source.offers g.S.Source.first) c.move_children.new.arena)
-          c.in-err-move_children.field-0.0.minimum
-          c.in-err-move_children.ensures.outcome);
+          c.in_err-move_children.field-0.0.minimum
+          c.in_err-move_children.ensures.outcome);
     }
 
 pub returns : goal.returns
@@ -49,17 +49,17 @@ returns g c =
     let o = c.open_larger.ensures in
     record {
       outcome = λ u slot leads larger fits.
-          let k = c.in-ok-s.ensures in
+          let k = c.in_ok-s.ensures in
           went_by (meant g.S.Reading.segments g.S.Source.offers g.S.Source.first)
           (state_of (meant g.S.Reading.segments g.S.Source.offers g.S.Source.first) c.args.arena.now)
           (state_of (meant g.S.Reading.segments g.S.Source.offers g.S.Source.first) c.place_shape.new.arena)
           (state_of (meant g.S.Reading.segments g.S.Source.offers g.S.Source.first) c.open_larger.new.arena)
-          c.args.arena.now.table c.args.g c.args.w c.in-ok-s.s c.in-ok-s.t
+          c.args.arena.now.table c.args.g c.args.w c.in_ok-s.s c.in_ok-s.t
           (landing_of c.args.held.landing) (shape_meant c.args.held.shape) (shape_meant c.args.larger) u
           refl slot leads.live leads.lands leads.shaped larger fits (k.outcome fits slot.inside) (k.roomy fits slot.inside) o.rewritten o.words
           (state_of (meant g.S.Reading.segments g.S.Source.offers g.S.Source.first) c.move_children.new.arena)
           (state_of (meant g.S.Reading.segments g.S.Source.offers g.S.Source.first) c.close_old.new.arena)
-          c.in-ok-move_children.ensures.outcome
+          c.in_ok-move_children.ensures.outcome
           c.close_old.ensures.rewritten
           c.close_old.ensures.words;
     }

@@ -17,14 +17,13 @@ returns-then-c c =
     let r = add_refused (table_of c.args.self.now) c.args.c (add_large (table_of c.args.self.now) c.args.c (omega arith)) in
     record { value = r.0; after = r.1 }
 
-pub invariant-of-t : goal.invariant-of-t
-invariant-of-t c = (
-  omega arith,
-  (
-    length-set c.args.self.now.entries c.args.self.now.count _ ∙ c.args.self.now.whole,
-    (bounded_more c.args.self.now.count c.args.self.now.entries c.args.c (omega arith) (omega arith) c.args.self.now.bounded, tt),
-  ),
-)
+pub invariant_of-t : goal.invariant_of-t
+invariant_of-t c =
+    record {
+      few = omega arith;
+      whole = length-set c.args.self.now.entries c.args.self.now.count _ ∙ c.args.self.now.whole;
+      bounded = bounded_more c.args.self.now.count c.args.self.now.entries c.args.c (omega arith) (omega arith) c.args.self.now.bounded;
+    }
 
 pub returns : goal.returns
 returns c =

@@ -16,14 +16,13 @@ loop-k-preserved c =
     (c.min-allocated.ensures ∙ ap (λ (a : ℕ). min a (get_or c.loop-k.entries c.loop-k.k no_entry).capacity) c.allocated.ensures.value)
     c.loop-k.invariant
 
-pub invariant-of-self : goal.invariant-of-self
-invariant-of-self c = (
-  omega arith,
-  (
-    c.loop-k.invariant.whole ∙ c.args.self.now.whole,
-    (rolled_bounded c.args.self.now.count c.loop-k.entries c.args.self.now.entries (allocated_in (table_of c.args.mark.now)) (rolled_up_to c.args.self.now.count c.loop-k.k c.loop-k.entries c.args.self.now.entries (allocated_in (table_of c.args.mark.now)) c.loop-k-test.false c.loop-k.invariant) c.args.self.now.bounded, tt),
-  ),
-)
+pub invariant_of-self : goal.invariant_of-self
+invariant_of-self c =
+    record {
+      few = omega arith;
+      whole = c.loop-k.invariant.whole ∙ c.args.self.now.whole;
+      bounded = rolled_bounded c.args.self.now.count c.loop-k.entries c.args.self.now.entries (allocated_in (table_of c.args.mark.now)) (rolled_up_to c.args.self.now.count c.loop-k.k c.loop-k.entries c.args.self.now.entries (allocated_in (table_of c.args.mark.now)) c.loop-k-test.false c.loop-k.invariant) c.args.self.now.bounded;
+    }
 
 pub returns : goal.returns
 returns c =

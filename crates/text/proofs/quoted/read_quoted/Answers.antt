@@ -10,7 +10,7 @@ returns-in-Close c = (closed c.loop-bytes.invariant.1 (letter_from c.args.text.n
 
 pub loop-bytes-preserved : goal.loop-bytes-preserved
 loop-bytes-preserved c =
-    let pushed = chosen _ _ _ _ c.push.ensures.items (ap is_ok c.in-ok-push.was) in
+    let pushed = chosen _ _ _ _ c.push.ensures.items (ap is_ok c.in_ok-push-in-Byte.was) in
     (omega (arith, c.in-Byte.ensures.used), subst (λ l. Sofar c.args.text.now l (c.loop-bytes.at + c.in-Byte.used)) (sym pushed) (one_more c.loop-bytes.invariant.1 _ _ (letter_from c.args.text.now c.loop-bytes.at ∙ sym c.in-Byte.ensures.is)))
 
 pub returns-in-Bad : goal.returns-in-Bad

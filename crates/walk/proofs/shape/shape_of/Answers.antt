@@ -13,12 +13,12 @@ returns-in-Struct g c =
 
 pub returns-in-InlineComposite : goal.returns-in-InlineComposite
 returns-in-InlineComposite g c =
-    let k : pointer_kind c.args.landing.pointer.word ≡ 0 → ⊥ = λ e. not_struct c.kind.result c.in-default.not-Struct (c.kind.ensures.value ∙ e) in
+    let k : pointer_kind c.args.landing.pointer.word ≡ 0 → ⊥ = λ e. not_struct c.kind.result c.in_default.not-Struct (c.kind.ensures.value ∙ e) in
     let x : ℕ = word (g.R.Reading.segments c.args.reading.now) c.args.landing.segment c.args.landing.start in
     let t = c.pointer_at-tag.ensures.value in
     record { value = shape_rows c.args.landing.pointer.word x _ _ _ k (sym c.in-InlineComposite.ensures.value) (c.row_count.ensures.value ∙ ap offset_field t) (c.struct_size-in-InlineComposite.ensures.data ∙ ap data_words t) (c.struct_size-in-InlineComposite.ensures.pointers ∙ ap pointer_words t) }
 
-pub returns-in-default-element_size : goal.returns-in-default-element_size
-returns-in-default-element_size g c =
-    let k : pointer_kind c.args.landing.pointer.word ≡ 0 → ⊥ = λ e. not_struct c.kind.result c.in-default.not-Struct (c.kind.ensures.value ∙ e) in
-    record { value = shape_plain c.args.landing.pointer.word _ _ _ k (not_composite c.element_size.result c.in-default-element_size.not-InlineComposite) c.element_size.ensures.value c.element_count.ensures.value }
+pub returns-in_default-element_size : goal.returns-in_default-element_size
+returns-in_default-element_size g c =
+    let k : pointer_kind c.args.landing.pointer.word ≡ 0 → ⊥ = λ e. not_struct c.kind.result c.in_default.not-Struct (c.kind.ensures.value ∙ e) in
+    record { value = shape_plain c.args.landing.pointer.word _ _ _ k (not_composite c.element_size.result c.in_default-element_size.not-InlineComposite) c.element_size.ensures.value c.element_count.ensures.value }

@@ -19,9 +19,9 @@ loop-i-init g c = λ mark h.
     (state_of (meant g.S.Reading.segments g.S.Source.offers g.S.Source.first) c.args.arena.now)
     h.prepared
 
-pub returns-in-err-move_row : goal.returns-in-err-move_row
-returns-in-err-move_row g c =
-    let p = err_from_is_err_and c.from-residual.result c.from-residual.ensures.1 in
+pub returns-in_err-move_row : goal.returns-in_err-move_row
+returns-in_err-move_row g c =
+    let p = err_from_is_err_and c.from_residual.result c.from_residual.ensures.1 in
     record {
       outcome = λ mark h.
           let k = c.loop-i.invariant mark h in
@@ -31,8 +31,8 @@ returns-in-err-move_row g c =
           (state_of (meant g.S.Reading.segments g.S.Source.offers g.S.Source.first) c.move_row.new.arena)
           (landing_of c.args.old) (shape_meant c.args.shape) c.args.s c.args.t (shape_meant c.args.larger) c.loop-i.i
           h k
-          (Err c.in-err-move_row.field-0.0)
-          (λ q. c.in-err-move_row.ensures.outcome mark q i) in
+          (Err c.in_err-move_row.field-0.0)
+          (λ q. c.in_err-move_row.ensures.outcome mark q i) in
           rw (p.1, p.2) (reached_fails _ mark _ _ c.loop-i.i (rows (shape_meant c.args.shape)) _ _ _ i k n);
     }
 
@@ -46,7 +46,7 @@ loop-i-preserved g c = λ mark h.
     (landing_of c.args.old) (shape_meant c.args.shape) c.args.s c.args.t (shape_meant c.args.larger) c.loop-i.i
     h k
     (Ok (tt {0}))
-    (λ q. c.in-ok-move_row.ensures.outcome mark q i))
+    (λ q. c.in_ok-move_row.ensures.outcome mark q i))
 
 pub returns : goal.returns
 returns g c = record {

@@ -19,9 +19,9 @@ loop-j-init g c = λ mark h hi.
     (state_of (meant g.S.Reading.segments g.S.Source.offers g.S.Source.first) c.args.arena.now)
     h.prepared
 
-pub returns-in-err-transfer_pointer : goal.returns-in-err-transfer_pointer
-returns-in-err-transfer_pointer g c =
-    let p = err_from_is_err_and c.from-residual.result c.from-residual.ensures.1 in
+pub returns-in_err-transfer_pointer : goal.returns-in_err-transfer_pointer
+returns-in_err-transfer_pointer g c =
+    let p = err_from_is_err_and c.from_residual.result c.from_residual.ensures.1 in
     record {
       outcome = λ mark h hi.
           let k = c.loop-j.invariant mark h hi in
@@ -36,8 +36,8 @@ returns-in-err-transfer_pointer g c =
           refl h k hi j
           (ap (λ (x : ℕ). (c.args.old.start + x) % 2 ^ 64) c.slot.ensures.value)
           (ap (λ (x : ℕ). (c.args.t + x) % 2 ^ 64) c.slot-in-loop-j.ensures.value)
-          (Err c.in-err-transfer_pointer.field-0.0)
-          c.in-err-transfer_pointer.ensures.outcome in
+          (Err c.in_err-transfer_pointer.field-0.0)
+          c.in_err-transfer_pointer.ensures.outcome in
           rw (p.1, p.2) (reached_fails _ mark _ _ c.loop-j.j (pointers (shape_meant c.args.shape)) _ _ _ j k n);
     }
 
@@ -56,7 +56,7 @@ loop-j-preserved g c = λ mark h hi.
     (ap (λ (x : ℕ). (c.args.old.start + x) % 2 ^ 64) c.slot.ensures.value)
     (ap (λ (x : ℕ). (c.args.t + x) % 2 ^ 64) c.slot-in-loop-j.ensures.value)
     (Ok (tt {0}))
-    c.in-ok-transfer_pointer.ensures.outcome)
+    c.in_ok-transfer_pointer.ensures.outcome)
 
 pub returns : goal.returns
 returns g c = record {

@@ -3,8 +3,8 @@ use Rattle.std.proofs.Common.{◌+◌, ◌<◌, length, refl, arith}
 use Rattle.word_slab.proofs.Growth.{more_start, more_rising, more_inside, more_cuts}
 use Rattle.word_slab.proofs.Slab.add.Goals as goal
 
-pub invariant-of-self : goal.invariant-of-self
-invariant-of-self c =
+pub invariant_of-self : goal.invariant_of-self
+invariant_of-self c =
     let s = c.args.self.now in
     let room : s.cut + 1 < length s.marks = omega arith in (
       omega arith,

@@ -3,8 +3,8 @@ use Rattle.std.proofs.Common.{ℕ, ◌*◌, ◌<◌, ◌≤◌, arith, rules}
 use Rattle.std.proofs.lemmas.Nat.{mul-le}
 use Rattle.walk.proofs.shape.Shape.slot.Goals as goal
 
-pub overflow-add-result-in-Composite-3 : goal.overflow-add-result-in-Composite-3
-overflow-add-result-in-Composite-3 c =
+pub overflow_add-result-in-Composite-3 : goal.overflow_add-result-in-Composite-3
+overflow_add-result-in-Composite-3 c =
     let d : c.in-Composite.size.data < 65536 = search rules in
     let p : c.in-Composite.size.pointers < 65536 = search rules in
     let i : c.args.i < 4294967296 = search rules in
