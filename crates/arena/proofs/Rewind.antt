@@ -37,7 +37,7 @@ partly_is m t mark (suc k) =
       lengths = λ x. z.lengths x ∙ r.lengths x;
     }
 
-rewound_sizes : (m : List (List ℕ)) (t mark : Table) (k : ℕ) → map length (rewound_words m t mark k) ≡ map length m
+pub rewound_sizes : (m : List (List ℕ)) (t mark : Table) (k : ℕ) → map length (rewound_words m t mark k) ≡ map length m
 rewound_sizes m t mark zero = refl
 rewound_sizes m t mark (suc k) =
     zeroed_sizes (rewound_words m t mark k) k (allocated_in mark k) (allocated_in t k - allocated_in mark k) ∙ rewound_sizes m t mark k

@@ -1,6 +1,6 @@
 // Going back to a mark, which is the table as it was: words allocated since are zero again, counts are as they were, and segments
 // granted since stay, empty.
-ghost use Rattle.std.specs.Prelude.{◌≡◌, ℕ, length};
+ghost use Rattle.std.specs.Prelude.{◌≡◌, ℕ, map, length};
 ghost use Rattle.table.specs.Meaning.{table_of, rolled_back};
 ghost use Rattle.arena.specs.Zeroed.{rewound_words, Rewound};
 
@@ -26,6 +26,7 @@ impl<S: Source> BuilderArena<S> {
     // Goes back to the mark.
     pub fn roll_back(&mut self, mark: &SegmentTable)
         ensures words { Rewound (S.Reading.segments self.old.source) (S.Reading.segments self.new.source) (table_of self.old.table) (table_of mark.now) }
+        ensures sizes { map length (S.Reading.segments self.new.source) ≡ map length (S.Reading.segments self.old.source) }
         ensures table { table_of self.new.table ≡ rolled_back (table_of self.old.table) (table_of mark.now) }
         ensures offers { S.Source.offers self.new.source ≡ S.Source.offers self.old.source }
         ensures first { S.Source.first self.new.source ≡ S.Source.first self.old.source }

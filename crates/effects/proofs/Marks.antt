@@ -72,12 +72,12 @@ table_back (s ∷ t) (k ∷ mark) met e f =
 
 -- mark is the state at the start, s the one that is left, and n the segments after going back
 pub words_back : (mark s : State) (n : List (List ℕ)) (met : List ℕ) → Sized mark → ((x y : ℕ) → allocated_in mark.table x ≤ y → memory mark x y ≡ 0) →
-    Prepared mark s → capacities s.table ≡ capacities mark.table ++ met → Rewound s.source.segments n s.table mark.table →
+    Prepared mark s → capacities s.table ≡ capacities mark.table ++ met → Rewound s.source.segments n s.table mark.table → map length n ≡ map length s.source.segments →
     n ≡ mark.source.segments ++ zero_segments met
 unfolding word
-words_back mark s n met sized zeros p caps r =
+words_back mark s n met sized zeros p caps r sizes =
     segments_same n (mark.source.segments ++ zero_segments met)
-    (r.sizes ∙ (p.sized ∙ (caps ∙ (ap (λ (l : List ℕ). l ++ met) (sym sized) ∙
+    (sizes ∙ (p.sized ∙ (caps ∙ (ap (λ (l : List ℕ). l ++ met) (sym sized) ∙
     (ap (λ (l : List ℕ). map length mark.source.segments ++ l) (sym (zero_sizes met)) ∙ sym (map_append mark.source.segments (zero_segments met)))))))
     (λ x y. at x y ∙ sym (ap (λ (f : ℕ → ℕ → ℕ). f x y) (same_memory mark.source.segments met)))
   where

@@ -15,7 +15,7 @@ returns g c = record {
       let full : Filled m.table = subst Filled (sym is) (λ x. (within_capacity c.args.mark.now x).0) in
       record {
         table_is = r.table ∙ (ap (rolled_back t) (sym is) ∙ table_back t m.table met caps full);
-        segments_are = words_back m _ _ met sized clean prepared caps (subst (Rewound _ _ t) (sym is) r.words);
+        segments_are = words_back m _ _ met sized clean prepared caps (subst (Rewound _ _ t) (sym is) r.words) r.sizes;
         same_offers = r.offers;
         same_first = r.first;
       };
