@@ -1,5 +1,5 @@
 -- The elements of lists of code 0 to 5: numbers of some bits, packed from a word's lowest bit on.
-use Rattle.std.specs.Prelude.{ℕ, ◌+◌, ◌*◌, ◌/◌, ◌%◌, ◌^◌, ◌<◌, ◌≤◌, Bool, true, false, ◌==◌}
+use Rattle.std.specs.Prelude.{ℕ, ◌+◌, ◌*◌, ◌/◌, ◌%◌, ◌^◌, Bool, true, false, ◌==◌}
 use Rattle.wire.specs.Sizes.{element_bits}
 
 -- ## The bits of a word

@@ -1,5 +1,5 @@
 -- Made and read back: the parts that a made pointer word has.
-use Rattle.std.specs.Prelude.{◌≡◌, ℕ, ◌*◌, ◌^◌, ◌<◌}
+use Rattle.std.specs.Prelude.{◌≡◌, ℕ, ◌^◌, ◌<◌}
 use Rattle.wire.specs.Pointers.{high_half, pointer_kind, offset_field, pointer_target, data_words, pointer_words, list_code, list_count, far_segment, far_word, far_mark}
 
 -- a word aimed from word p at word t leads there, if both lie below 2 ^ 29

@@ -1,5 +1,5 @@
 -- Sizes in words, and the limits that a pointer word sets to them.
-use Rattle.std.specs.Prelude.{ℕ, zero, suc, ◌+◌, ◌*◌, ◌/◌, ◌^◌, Bool, true, false, cond, Some, None, Ok, Err, Option, Result, nat_le}
+use Rattle.std.specs.Prelude.{ℕ, zero, suc, ◌+◌, ◌*◌, ◌/◌, ◌^◌, cond, Some, None, Ok, Err, Option, Result, nat_le}
 use Rattle.wire.specs.declared.sizes.ElementSize.{ElementSize}
 use Rattle.wire.specs.declared.sizes.ElementSize.TheVariants.{Void, Bit, Byte, TwoBytes, FourBytes, EightBytes, Pointer, InlineComposite}
 use Rattle.wire.specs.declared.sizes.TooLarge.{TooLarge}

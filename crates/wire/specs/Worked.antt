@@ -1,9 +1,9 @@
 -- Words of small messages, worked out by hand from the encoding, against the definitions.
 use Rattle.std.specs.Prelude.{◌≡◌, ℕ, ◌-◌, ◌^◌, Ok, Err}
 use Rattle.wire.specs.declared.sizes.TooLarge.TheVariants.{Elements}
-use Rattle.wire.specs.Pointers.{pointer_kind, pointer_target, struct_pointer, list_pointer, struct_list_tag, single_far, double_far, empty_struct, unaimed}
+use Rattle.wire.specs.Pointers.{pointer_target, struct_pointer, list_pointer, struct_list_tag, single_far, double_far, empty_struct, unaimed}
 use Rattle.wire.specs.Sizes.{list_words, sized_list}
-use Rattle.wire.specs.Elements.{element_put, element_in}
+use Rattle.wire.specs.Elements.{element_put}
 
 -- element i of a list of bytes becomes b
 abbrev pub byte : (word i b : ℕ) → ℕ
