@@ -44,6 +44,7 @@ def declared():
         if is_made(path):
             continue
         for line in read(path).split("\n"):
+            line = re.sub(r"(^|\s)--.*", "", line)
             if m := HEAD.match(line):
                 found[m.group(2)] = True
             elif m := DECLARED.match(line):
@@ -58,12 +59,13 @@ def declared():
 def respelled(name, is_type):
     if is_type or name[0].isupper():
         return "".join(p[:1].upper() + p[1:] for p in name.split("-"))
-    return name.replace("-", "_").replace("′", "'")
+    name = name.replace("-", "_").replace("′", "'")
+    return re.sub(r"(?<=[a-z0-9])[A-Z][a-z]*", lambda m: "_" + m.group(0).lower(), name) if re.fullmatch(r"[a-z]+(?:[A-Z][a-z]+)+", name) else name
 
 
 def table():
     names = declared()
-    to = {n: respelled(n, t) for n, t in names.items() if ("-" in n.strip("-") or "′" in n)}
+    to = {n: respelled(n, t) for n, t in names.items()}
     to = {n: x for n, x in to.items() if n != x}
     back = {}
     for n, x in to.items():

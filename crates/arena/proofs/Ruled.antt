@@ -1,13 +1,13 @@
 -- From what an allocation answers and leaves to the placing rule.
-use Rattle.std.proofs.Common.{◌≡◌, ℕ, zero, suc, ◌+◌, ◌-◌, ◌<◌, ◌≤◌, min, Bool, true, false, cond, ◌&&◌, ltb, leb, ◌⊎◌, List, [], ◌∷◌, ◌++◌, length, drop, Some, None, Ok, Err, Option, Result, sym, refl, ap, ◌∙◌, inl, inr, ⊎_elim, arith}
-use Rattle.std.proofs.lemmas.Bool.{cond-true, cond-false, lt-ltb, le-ltb, ltb-true, le-leb, leb-true, and_parts, and_from, cases_Bool}
+use Rattle.std.proofs.Common.{◌≡◌, ℕ, ◌+◌, ◌<◌, Bool, true, false, cond, ◌&&◌, ltb, leb, ◌⊎◌, List, [], ◌∷◌, ◌++◌, length, drop, Some, None, Ok, Err, Result, sym, refl, ap, ◌∙◌, inl, inr, ⊎_elim, arith}
+use Rattle.std.proofs.lemmas.Bool.{cond-true, cond-false, lt-ltb, cases_Bool}
 use Rattle.table.specs.Segments.{fresh, more, Table, allocated_in, left_in, capacities, take, first_fit}
 use Rattle.table.specs.Placing.{Room, room, Outcome, got, no_space, then, in_segment, grant, anywhere, place, pad}
-use Rattle.table.specs.Meaning.{has_room, first_words, with_first_words}
+use Rattle.table.specs.Meaning.{has_room}
 use Rattle.table.proofs.Tables.{drop_front, append_none, capacities_length, capacities_append, capacities_take}
 use Rattle.arena.specs.declared.NoSpace.{NoSpace}
-use Rattle.arena.specs.Space.{Space, with_table, with_pad, Found, Granted, Denied, Near, Anywhere, Placed, Padded}
-use Rattle.arena.specs.Rule.{met_between, asked_for, ByRule, AllocationsFollowTheRule}
+use Rattle.arena.specs.Space.{Space, with_pad, Found, Granted, Denied, Near, Anywhere, Placed, Padded}
+use Rattle.arena.specs.Rule.{met_between, asked_for, ByRule}
 
 -- ## The capacities met
 

@@ -1,5 +1,5 @@
 -- Allocations of an arena are parts of a call.
-use Rattle.std.proofs.Common.{◌≡◌, ℕ, zero, suc, ◌+◌, ◌<◌, ◌≤◌, Bool, true, false, cond, ◌&&◌, eqb, ltb, leb, ◌⊎◌, List, [], ◌∷◌, ◌++◌, map, length, replicate, Some, None, Ok, Err, Option, Result, sym, refl, ap, ◌∙◌, inl, inr, ⊎_elim, arith}
+use Rattle.std.proofs.Common.{◌≡◌, ℕ, ◌+◌, ◌<◌, ◌≤◌, Bool, true, false, cond, ◌&&◌, eqb, ltb, leb, ◌⊎◌, List, [], ◌∷◌, ◌++◌, map, length, replicate, Some, None, Ok, Err, Result, sym, refl, ap, ◌∙◌, inl, inr, ⊎_elim, arith}
 use lib.ListN.{length-replicate}
 use Rattle.std.proofs.lemmas.List.{map_push}
 use Rattle.std.proofs.lemmas.Bool.{cond-true, cond-false, lt-ltb, cases_Bool}
@@ -7,15 +7,14 @@ use Rattle.tree.specs.Words.{word}
 use Rattle.tree.proofs.Words.{word_granted}
 use Rattle.table.specs.Segments.{fresh, more, Table, allocated_in, left_in, capacities, take, first_fit}
 use Rattle.table.specs.Placing.{Room, Outcome, got, no_space, then, in_segment, grant, anywhere, place, pad, root}
-use Rattle.table.specs.Meaning.{table_of, has_room, first_words, with_first_words}
+use Rattle.table.specs.Meaning.{table_of, has_room, with_first_words}
 use Rattle.table.specs.declared.SegmentTable.{SegmentTable}
 use Rattle.table.proofs.Entries.{count_is}
 use Rattle.table.proofs.Tables.{append_none, capacities_append, capacities_take}
 use Rattle.arena.specs.declared.NoSpace.{NoSpace}
-use Rattle.arena.specs.Space.{Space, with_table, with_pad, Found, Denied, Near, Anywhere, Placed, Padded, Granted as Arena-as-Granted}
-use Rattle.law.specs.Law.{Source, Meaning, State, memory, lengths, Offered, Granted}
+use Rattle.arena.specs.Space.{Space, with_table, with_pad, Found, Denied, Anywhere, Placed, Padded, Granted as Arena-as-Granted}
+use Rattle.law.specs.Law.{Source, State, memory, lengths, Offered}
 use Rattle.effects.specs.Parts.{Went, Failed, Allocates}
-use Rattle.effects.specs.States.{Rewritten}
 use Rattle.effects.proofs.Joins.{room_of, joins, fails_first, rewrites}
 
 -- ## A state as an arena's space

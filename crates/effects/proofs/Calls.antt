@@ -1,31 +1,30 @@
 -- From parts to whole calls, and from whole calls to the law.
-use Rattle.std.proofs.Common.{◌≡◌, ℕ, zero, suc, ◌+◌, ◌^◌, ◌<◌, ◌≤◌, ◌⊎◌, List, [], ◌∷◌, ◌++◌, map, length, drop, replicate, None, Ok, Err, Result, sym, refl, ap, ◌∙◌, subst, inl, inr, ⊎_elim, arith}
+use Rattle.std.proofs.Common.{◌≡◌, ℕ, zero, suc, ◌^◌, ◌≤◌, List, [], ◌∷◌, ◌++◌, map, length, None, Err, sym, refl, ap, ◌∙◌, subst, inl, inr, ⊎_elim, arith}
 use lib.ListN.{length-replicate}
 use Rattle.tree.specs.Value.{Value, null, object, Step, Goes, value_at}
-use Rattle.tree.specs.Shows.{Memory, Shows, within, reach, walk, Sound}
+use Rattle.tree.specs.Shows.{Memory, Shows, walk, Sound}
 use Rattle.tree.specs.Decode.{Deep}
 use Rattle.tree.proofs.Extents.{sound}
 use Rattle.tree.proofs.Context.{reached, Once}
 use Rattle.tree.proofs.Replace.{once_end, beyond}
-use Rattle.table.specs.Segments.{Table, allocated_in, capacities, all_fresh}
-use Rattle.table.specs.Placing.{Room, room, Outcome, got, no_space, then, root}
-use Rattle.table.proofs.Tables.{append_none, append_assoc', drop_front, capacities_length, capacities_append, capacities_fresh}
+use Rattle.table.specs.Segments.{allocated_in, capacities, all_fresh}
+use Rattle.table.specs.Placing.{Room, room, Outcome, no_space, root}
+use Rattle.table.proofs.Tables.{append_none, capacities_length, capacities_append, capacities_fresh}
 use Rattle.arena.specs.declared.NoSpace.{NoSpace}
-use Rattle.law.specs.Calls.{Call, Typed, Answer, refused}
-use Rattle.law.specs.Machine.{Making, making, fine, wrong, judge, reply, effect}
+use Rattle.law.specs.Calls.{Call, Typed, refused}
+use Rattle.law.specs.Machine.{making, fine, wrong, judge, reply, effect}
 use Rattle.law.specs.Exact.{Written, makes, call_outcome}
-use Rattle.law.specs.Law.{Source, Meaning, State, memory, lengths, Granted, zero_segments, Bare, Holds, Reply, met_in, Lawful}
+use Rattle.law.specs.Law.{Source, State, memory, lengths, Granted, zero_segments, Bare, Holds, Reply, met_in, Lawful}
 use Rattle.tree.specs.Extents.{WellLaid}
 use Rattle.table.proofs.Allocations.{after_root}
-use Rattle.law.specs.Enough.{PairIs, Accepts, Crowds}
+use Rattle.law.specs.Enough.{PairIs}
 use Rattle.law.proofs.Makings as makings
-use Rattle.law.proofs.Judged.{fine_goes}
 use Rattle.law.proofs.Grants.{granted_join}
 use Rattle.law.proofs.Tables.{tables}
 use Rattle.law.proofs.Enough.{roots, exact, bounded_small}
 use Rattle.effects.specs.States.{Sized, Clean, Prepared, Back}
 use Rattle.effects.specs.Parts.{Went, Failed}
-use Rattle.effects.specs.Makes.{Slot, Makes, Performs}
+use Rattle.effects.specs.Makes.{Slot, Performs}
 use Rattle.effects.specs.Whole.{WholeCallsKeepTheLaw}
 use Rattle.effects.proofs.Joins.{room_of, joins, fails_first, fails_later}
 use Rattle.effects.proofs.Keeping.{went_sized, went_grown}

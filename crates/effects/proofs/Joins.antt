@@ -1,9 +1,9 @@
 -- Parts of a call, put together one after the other.
-use Rattle.std.proofs.Common.{◌≡◌, ℕ, List, [], ◌∷◌, ◌++◌, length, sym, refl, ap, ◌∙◌, subst}
+use Rattle.std.proofs.Common.{◌≡◌, ℕ, List, [], ◌++◌, sym, ap, ◌∙◌}
 use Rattle.table.specs.Segments.{Table, capacities}
 use Rattle.table.specs.Placing.{Room, Outcome, got, no_space, then}
 use Rattle.table.proofs.Tables.{append_assoc', append_none}
-use Rattle.law.specs.Law.{Source, State, Granted}
+use Rattle.law.specs.Law.{Source, State}
 use Rattle.law.proofs.Grants.{granted_join}
 use Rattle.effects.specs.States.{Rewritten}
 use Rattle.effects.specs.Parts.{Went, Failed}

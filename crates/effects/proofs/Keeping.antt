@@ -1,14 +1,13 @@
 -- What parts of a call keep: sizes of table and source, counts that only grow, and all that was allocated at a mark.
-use Rattle.std.proofs.Common.{◌≡◌, ℕ, ◌+◌, ◌<◌, ◌≤◌, ◌≢◌, ◌⊎◌, List, [], ◌++◌, sym, refl, ap, ◌∙◌, inl, inr, ⊎_elim, arith}
-use Rattle.std.proofs.lemmas.Bool.{cases_eq}
+use Rattle.std.proofs.Common.{◌≡◌, ℕ, ◌<◌, ◌≤◌, List, [], ◌++◌, sym, refl, ap, ◌∙◌, arith}
 use Rattle.tree.specs.Value.{change}
 use Rattle.tree.specs.Shows.{Memory}
-use Rattle.tree.proofs.Context.{change_here, change_else}
+use Rattle.tree.proofs.Context.{change_else}
 use Rattle.table.specs.Segments.{Table, allocated_in, capacities}
-use Rattle.table.specs.Placing.{Room, Outcome, got}
-use Rattle.table.specs.Laws.{Later, After}
+use Rattle.table.specs.Placing.{Room, Outcome}
+use Rattle.table.specs.Laws.{After}
 use Rattle.table.proofs.Allocations.{got_later}
-use Rattle.law.specs.Law.{Source, State, memory, lengths}
+use Rattle.law.specs.Law.{Source, State, memory}
 use Rattle.law.proofs.Standing.{granted_lengths}
 use Rattle.effects.specs.States.{Sized, Rewritten, Clean, Prepared}
 use Rattle.effects.specs.Parts.{Went}

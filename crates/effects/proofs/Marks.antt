@@ -1,12 +1,12 @@
 -- A call that found no space goes back to the mark: words and counts are as they were, and segments granted on the way stay, empty.
-use Rattle.std.proofs.Common.{◌≡◌, ℕ, zero, suc, ◌+◌, ◌<◌, ◌≤◌, min, ◌⊎◌, List, [], ◌∷◌, ◌++◌, map, length, get_or, replicate, sym, refl, ap, ◌∙◌, inl, inr, ⊎_elim, arith}
+use Rattle.std.proofs.Common.{◌≡◌, ℕ, suc, ◌<◌, ◌≤◌, min, List, [], ◌∷◌, ◌++◌, map, length, get_or, sym, refl, ap, ◌∙◌, ⊎_elim, arith}
 use lib.ListN.{length-replicate}
 use Rattle.std.proofs.lemmas.Bool.{cases_lt}
 use Rattle.tree.specs.Words.{word}
-use Rattle.table.specs.Segments.{Segment, fresh, Table, allocated_in, capacities, all_fresh}
+use Rattle.table.specs.Segments.{Table, allocated_in, capacities, all_fresh}
 use Rattle.table.specs.Meaning.{rolled_back}
 use Rattle.arena.specs.Zeroed.{Rewound}
-use Rattle.law.specs.Law.{State, memory, lengths, zero_segments}
+use Rattle.law.specs.Law.{State, memory, zero_segments}
 use Rattle.law.proofs.Tables.{same_memory}
 use Rattle.effects.specs.States.{Prepared, Sized}
 

@@ -1,5 +1,5 @@
 -- Words of segments, as the table counts them.
-use Rattle.std.proofs.Common.{◌≡◌, ℕ, zero, suc, ◌+◌, ◌^◌, ◌<◌, ◌≤◌, List, [], ◌∷◌, ◌++◌, map, length, get_or, Result, sym, refl, ap, ◌∙◌, ⊎_elim, arith}
+use Rattle.std.proofs.Common.{◌≡◌, ℕ, zero, suc, ◌^◌, ◌<◌, ◌≤◌, List, [], ◌∷◌, map, length, get_or, Result, sym, refl, ap, ◌∙◌, ⊎_elim, arith}
 use Rattle.std.proofs.lemmas.Bool.{cases_lt}
 use Rattle.segments.specs.declared.refusal.Outside.{Outside}
 use Rattle.segments.specs.Calls.{Written}
@@ -8,7 +8,6 @@ use Rattle.tree.specs.Words.{word}
 use Rattle.tree.proofs.Words.{word_written}
 use Rattle.table.specs.declared.SegmentTable.{SegmentTable}
 use Rattle.table.specs.Segments.{Segment, fresh, Table, allocated_in, capacities}
-use Rattle.table.specs.Entries.{no_entry}
 use Rattle.table.specs.Meaning.{table_of}
 use Rattle.table.proofs.Entries.{allocated_past, allocated_is, entry_is, count_is}
 use Rattle.arena.proofs.Zeros.{written_put, put_sizes}

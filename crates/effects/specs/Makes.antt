@@ -1,5 +1,5 @@
 -- What an edit makes of a slot, as a part of a call.
-use Rattle.std.specs.Prelude.{◌≡◌, ℕ, ◌+◌, ◌^◌, ◌<◌, ◌≤◌, List, ◌++◌, Ok, Err, Result}
+use Rattle.std.specs.Prelude.{◌≡◌, ℕ, ◌+◌, ◌^◌, ◌<◌, ◌≤◌, ◌++◌, Ok, Err, Result}
 use Rattle.tree.specs.Value.{Value}
 use Rattle.tree.specs.Shows.{Shows, within, reach}
 use Rattle.tree.specs.Decode.{Deep}

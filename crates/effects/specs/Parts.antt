@@ -1,5 +1,5 @@
 -- A part of a call: F says for each room what comes of it. It went, or it found no space.
-use Rattle.std.specs.Prelude.{◌≡◌, ℕ, ◌⊎◌, List, [], ◌∷◌, ◌++◌, length, None, Ok, Err, Result}
+use Rattle.std.specs.Prelude.{◌≡◌, ℕ, ◌⊎◌, List, [], ◌++◌, length, None, Ok, Err, Result}
 use Rattle.table.specs.Segments.{Table, capacities}
 use Rattle.table.specs.Placing.{Room, Outcome, got, no_space}
 use Rattle.arena.specs.declared.NoSpace.{NoSpace}

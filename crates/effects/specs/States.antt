@@ -3,7 +3,7 @@ use Rattle.std.specs.Prelude.{◌≡◌, ℕ, ◌<◌, ◌≤◌, List, ◌++◌
 use Rattle.table.specs.Segments.{allocated_in, capacities, all_fresh}
 use Rattle.table.specs.Meaning.{table_of}
 use Rattle.arena.specs.declared.BuilderArena.{BuilderArena}
-use Rattle.law.specs.Law.{Source, Meaning, State, memory, lengths, zero_segments}
+use Rattle.law.specs.Law.{Source, State, memory, lengths, zero_segments}
 
 -- a type of sources, by what its values mean
 abbrev pub meant : {X : Type 0} → (X → List (List ℕ)) → (X → ℕ → Option ℕ) → (X → ℕ → Option ℕ) → Source X

@@ -1,19 +1,19 @@
 -- A child moves to another slot: the words of the definition are those of a transfer.
-use Rattle.std.proofs.Common.{◌≡◌, ℕ, zero, suc, ◌+◌, ◌-◌, ◌*◌, ◌^◌, ◌<◌, ◌≤◌, Bool, true, false, cond, ◌&&◌, eqb, ◌≢◌, ◌⊎◌, sym, refl, ap, ◌∙◌, subst, inl, inr, ⊎_elim, arith}
-use Rattle.std.proofs.lemmas.Bool.{eq-eqb, ne_eqb, eqb-true, eqb-false, and_parts, cases_eq}
+use Rattle.std.proofs.Common.{◌≡◌, ℕ, zero, suc, ◌+◌, ◌<◌, Bool, true, false, cond, ◌&&◌, eqb, ◌≢◌, sym, refl, ◌∙◌, subst, inl, inr, arith}
+use Rattle.std.proofs.lemmas.Bool.{eq-eqb, ne_eqb, eqb-true, eqb-false, and_parts}
 use Rattle.wire.specs.Pointers.{pointer_kind, high_half, pointer_target, single_far, double_far, empty_struct, re_aimed, unaimed, far_mark}
 use Rattle.tree.specs.Value.{Shape, Value, null, object, change}
-use Rattle.tree.specs.Shows.{Memory, Way, direct, single, double, far_way, way, Shows, within, reach}
+use Rattle.tree.specs.Shows.{Memory, direct, far_way, way, Shows, reach}
 use Rattle.tree.specs.Edits.{Transferred, Steady}
-use Rattle.tree.proofs.Count.{within_in, within_none}
+use Rattle.tree.proofs.Count.{within_in}
 use Rattle.tree.proofs.Context.{change_here, change_else}
 use Rattle.tree.proofs.Roads.{paved_live}
 use Rattle.tree.proofs.Transfers.{transfer_null, transfer_far, transfer_near, transfer_empty, transfer_pad, transfer_double}
 use Rattle.table.specs.Placing.{Room, Outcome, got, no_space, then, pad}
 use Rattle.table.specs.Laws.{Got, Fresh, Padded}
-use Rattle.table.proofs.Allocations.{fresh_pad, later_same}
-use Rattle.law.specs.Exact.{near_pointer, bridged, moved_word, moved}
-use Rattle.law.proofs.Inits.{counts, Small, got_look, got_here}
+use Rattle.table.proofs.Allocations.{fresh_pad}
+use Rattle.law.specs.Exact.{near_pointer, bridged, moved}
+use Rattle.law.proofs.Inits.{counts, Small, got_here}
 
 pub got_then : {A B : Type 0} (P : Room → A → Type 0) (Q : Room → B → Type 0) (o : Outcome A) (f : Room → A → Outcome B) → Got P o →
     ((r : Room) (a : A) → P r a → Got Q (f r a)) → Got Q (then o f)

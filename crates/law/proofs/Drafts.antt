@@ -1,11 +1,11 @@
 -- Runs of calls on a draft.
-use Rattle.std.proofs.Common.{◌≡◌, ℕ, ◌⊎◌, List, [], ◌∷◌, sym, refl, ap, ◌∙◌, inl, inr, arith}
+use Rattle.std.proofs.Common.{◌≡◌, List, [], ◌∷◌, sym, refl, ap, ◌∙◌, inl, inr, arith}
 use Rattle.tree.specs.Value.{Value, null}
 use Rattle.tree.specs.Words.{word}
 use Rattle.tree.specs.Decode.{decode}
 use Rattle.tree.proofs.Decoding.{decodes}
-use Rattle.law.specs.Law.{Source, State, memory, Holds, Begun, met_in, Lawful}
-use Rattle.law.specs.Runs.{Machine, Play, Event, Run, last, feed, tree, answers, Follows, FollowsAlong}
+use Rattle.law.specs.Law.{Source, State, memory, Holds, Begun}
+use Rattle.law.specs.Runs.{Event, Run, last, feed, tree, answers, FollowsAlong}
 use Rattle.law.specs.Drafts.{plain_machine, drafting, tree_after, decoded, RunsStand}
 use Rattle.law.proofs.Nesting.{nesting}
 use Rattle.law.proofs.Tables.{first_kept}

@@ -1,8 +1,8 @@
 -- The exact words keep the law of a call, for every edit.
-use Rattle.std.proofs.Common.{◌≡◌, ℕ, zero, suc, ◌+◌, ◌-◌, ◌^◌, ◌<◌, ◌≤◌, Bool, true, false, cond, eqb, ltb, leb, ◌⊎◌, List, [], ◌∷◌, ◌++◌, length, sym, refl, ap, ◌∙◌, subst, inl, inr, ⊎_elim, arith, lit≤}
+use Rattle.std.proofs.Common.{◌≡◌, ℕ, zero, suc, ◌-◌, ◌^◌, ◌<◌, Bool, true, false, cond, eqb, ◌⊎◌, List, [], ◌∷◌, length, sym, refl, ap, ◌∙◌, subst, inl, ⊎_elim, arith, lit≤}
 use mathlib.Core.Path.{fun_ext}
 use Rattle.std.proofs.lemmas.Bool.{eq-eqb, ne_eqb, lt-ltb, le-leb}
-use Rattle.tree.specs.Value.{Shape, Value, null, object, Step, Goes, value_at, put}
+use Rattle.tree.specs.Value.{Shape, Value, null, object, Step, Goes, value_at}
 use Rattle.tree.specs.Shows.{Memory, Landing, land, Shows, walk, Sound}
 use Rattle.tree.specs.Words.{word}
 use Rattle.tree.specs.Extents.{WellLaid}
@@ -11,11 +11,10 @@ use Rattle.tree.proofs.Extents.{sound, well_laid}
 use Rattle.tree.proofs.Context.{reached}
 use Rattle.tree.proofs.Laws.{laws}
 use Rattle.table.specs.Segments.{Table, allocated_in, Bounded}
-use Rattle.table.specs.Placing.{Room, room, Outcome, got, no_space, then, anywhere, root}
-use Rattle.table.specs.Laws.{Got}
+use Rattle.table.specs.Placing.{Room, room, Outcome, got, no_space, anywhere, root}
 use Rattle.table.proofs.Tables.{append_fresh}
 use Rattle.law.specs.Calls.{Edit, init_struct, init_list, init_rows, get_struct, get_rows, text, clear, write, Call, Typed, Answer, refused, nowhere, sizes, no_sizes, done, value}
-use Rattle.law.specs.Machine.{Making, keep, rebuild, making, grown, enough, Verdict, fine, wrong, judge, judged, reply, effect, made, accepted}
+use Rattle.law.specs.Machine.{keep, rebuild, making, grown, enough, Verdict, fine, wrong, judge, judged, reply, effect, accepted}
 use Rattle.law.specs.Exact.{Written, makes, call_outcome}
 use Rattle.law.specs.Law.{Source, State, memory, Bare, Stands, Holds, Reply, told, next, Leads, Placing, Lawful}
 use Rattle.law.specs.Enough.{PairIs, Accepts, Crowds, ExactWordsKeepTheLaw}

@@ -1,19 +1,19 @@
 -- Wrong behaviours are excluded, and the law is met by a run.
-use Rattle.std.proofs.Common.{◌≡◌, ℕ, zero, suc, ◌+◌, ◌-◌, ◌^◌, ◌<◌, ◌≤◌, min, max, Bool, true, false, cond, ◌&&◌, ltb, leb, ◌⊎◌, List, [], ◌∷◌, get_or, replicate, Some, None, Option, sym, refl, ap, ◌∙◌, subst, inl, inr, arith, lit≤}
+use Rattle.std.proofs.Common.{◌≡◌, ℕ, zero, suc, ◌+◌, ◌-◌, ◌^◌, ◌<◌, ◌≤◌, min, max, Bool, true, false, cond, ◌&&◌, ltb, leb, List, [], ◌∷◌, get_or, replicate, Some, None, Option, sym, refl, ap, ◌∙◌, subst, inr, arith, lit≤}
 use mathlib.Core.Path.{fun_ext}
 use Rattle.std.proofs.lemmas.Bool.{leb-true, ltb-true, and_parts}
-use Rattle.tree.specs.Value.{change, Shape, structure, Value, null, blank}
+use Rattle.tree.specs.Value.{change, structure, Value, null, blank}
 use Rattle.tree.specs.Words.{word}
-use Rattle.tree.specs.Shows.{Memory, land, within, total}
+use Rattle.tree.specs.Shows.{land, within, total}
 use Rattle.tree.specs.Decode.{shape_of, decode}
 use Rattle.tree.proofs.Context.{change_else}
-use Rattle.table.specs.Placing.{Room, room, Outcome, got, no_space, anywhere, place, pad, root}
+use Rattle.table.specs.Placing.{Room, room, got, no_space, anywhere, place, pad, root}
 use Rattle.law.specs.Calls.{init_struct, init_list, get_struct, text, clear, Call, Answer, refused, nowhere, sizes}
-use Rattle.law.specs.Machine.{fine, wrong, Verdict, judge, effect, reply}
+use Rattle.law.specs.Machine.{fine, judge, effect}
 use Rattle.law.specs.Exact.{Written, moved, call_outcome}
-use Rattle.law.specs.Law.{Offers, Offered, Meaning, Source, State, memory, Stands, Holds, Granted, Reply, told, Accepted, Crowded, Placing, Lawful, Begun}
+use Rattle.law.specs.Law.{Offered, Source, State, memory, Reply, Accepted, Crowded, Placing, Lawful, Begun}
 use Rattle.law.specs.Cases.{seg, at_root, in_pointer}
-use Rattle.law.specs.Excluded.{Slab, used, offer_of, slab, draft, state, says, begun, with_struct, short_run, dirty, two_children, one_child, old_pad, two_texts, swapped_texts, tree_of, WrongBehavioursExcluded, Examples}
+use Rattle.law.specs.Excluded.{Slab, used, offer_of, slab, draft, state, says, begun, with_struct, dirty, two_children, one_child, old_pad, two_texts, swapped_texts, tree_of, WrongBehavioursExcluded, Examples}
 use Rattle.law.proofs.Tables.{first_kept}
 use Rattle.law.proofs.Drafts.{begun_holds}
 use Rattle.law.proofs.Enough.{rejects, crowds, accepts}

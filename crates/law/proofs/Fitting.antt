@@ -1,15 +1,12 @@
 -- An accepted call makes only what fits: sizes that a pointer can hold, numbers in range, shapes that grow.
-use Rattle.std.proofs.Common.{◌≡◌, ℕ, zero, suc, ◌+◌, ◌-◌, ◌*◌, ◌/◌, ◌%◌, ◌^◌, ◌<◌, ◌≤◌, min, max, Bool, true, false, cond, ◌&&◌, ◌||◌, eqb, ltb, leb, ◌≢◌, ◌⊎◌, sym, refl, ap, ◌∙◌, subst, inl, inr, ⊎_elim, arith}
+use Rattle.std.proofs.Common.{◌≡◌, ℕ, zero, suc, ◌+◌, ◌-◌, ◌*◌, ◌^◌, ◌<◌, ◌≤◌, min, Bool, true, false, cond, ◌||◌, eqb, leb, sym, refl, subst, inl, inr, arith}
 use Rattle.std.proofs.lemmas.Bool.{leb-true, leb-false, ltb-true, eqb-true, eqb-false, and_parts, true≢false}
-use Rattle.std.proofs.lemmas.Bool.Decides.{nat_tests}
-use Rattle.wire.specs.Pointers.{data_words}
 use Rattle.wire.specs.Sizes.{element_bits}
-use Rattle.wire.specs.Elements.{element_word, element_bit, element_put}
-use Rattle.tree.specs.Value.{Element, void, bit, byte, two_bytes, four_bytes, eight_bytes, pointer, element_code, element_pointers, Shape, structure, plain, composite, Value, null, object, rows, pointers, places}
-use Rattle.tree.specs.Shows.{Memory, Describes, land, Shows}
-use Rattle.tree.specs.Decode.{element_of_code}
-use Rattle.law.specs.Calls.{Home, field, row, item, Edit, init_struct, init_list, init_rows, get_struct, get_rows, text, clear, write, Typed, Sections}
-use Rattle.law.specs.Machine.{Making, keep, wipe, set, new, spell, rebuild, making, numbering, patch_at, grown, enough, too_large, makes_too_large, fits, no_number, objection}
+use Rattle.wire.specs.Elements.{element_word}
+use Rattle.tree.specs.Value.{Element, void, bit, byte, two_bytes, four_bytes, eight_bytes, pointer, element_code, element_pointers, Shape, structure, plain, composite, Value, null, object}
+use Rattle.tree.specs.Shows.{Describes}
+use Rattle.law.specs.Calls.{Home, field, row, item, Edit, init_struct, init_list, init_rows, get_struct, get_rows, text, clear, write, Typed}
+use Rattle.law.specs.Machine.{keep, rebuild, making, numbering, grown, enough, too_large, makes_too_large, no_number, objection}
 use Rattle.law.proofs.Spots.{Describable}
 use Rattle.law.proofs.Rebuilds.{Grows}
 use Rattle.law.proofs.Turns.{FitsMaking}

@@ -1,5 +1,5 @@
 -- Chains of grants, put together.
-use Rattle.std.proofs.Common.{◌≡◌, ℕ, List, [], ◌∷◌, ◌++◌, sym, refl, ap, ◌∙◌, subst}
+use Rattle.std.proofs.Common.{◌≡◌, ℕ, List, [], ◌∷◌, ◌++◌, sym, ap, ◌∙◌}
 use Rattle.law.specs.Law.{Source, Meaning, lengths, Granted}
 
 -- from a source that offers the same

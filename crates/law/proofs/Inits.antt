@@ -1,20 +1,16 @@
 -- New objects: the words of the definition show them.
-use Rattle.std.proofs.Common.{◌≡◌, ℕ, zero, suc, ◌+◌, ◌-◌, ◌*◌, ◌^◌, ◌<◌, ◌≤◌, Bool, true, false, cond, eqb, ltb, ◌≢◌, ◌⊎◌, List, [], ◌∷◌, sym, refl, ap, ◌∙◌, subst, inl, inr, ⊎_elim, arith}
-use Rattle.std.proofs.lemmas.Bool.{lt-ltb, le-ltb, cases_lt, cases_eq}
-use Rattle.tree.specs.Value.{Shape, structure, plain, composite, Value, null, object, size, head, Step, Goes, value_at, put, blank, change}
-use Rattle.tree.specs.Shows.{Memory, Landing, land, span, within, reach, walk, Sound}
+use Rattle.std.proofs.Common.{◌≡◌, ℕ, ◌+◌, ◌^◌, ◌<◌, ◌≤◌, Bool, true, false, cond, eqb, sym, refl, ◌∙◌, subst, ⊎_elim, arith}
+use Rattle.std.proofs.lemmas.Bool.{lt-ltb, le-ltb, cases_lt}
+use Rattle.tree.specs.Value.{Shape, structure, plain, composite, Value, size, head, change}
+use Rattle.tree.specs.Shows.{Memory, Landing, span, within, reach}
 use Rattle.tree.specs.Edits.{Cleared, New, taken}
-use Rattle.tree.proofs.Count.{within_le, within_in, within_from, within_none}
+use Rattle.tree.proofs.Count.{within_in, within_from}
 use Rattle.tree.proofs.Context.{change_here, change_else}
-use Rattle.tree.proofs.Edits as edits
-use Rattle.tree.proofs.Blank as blanks
-use Rattle.tree.proofs.Values.{goes_put, value_at_put, put_put, put_walk}
-use Rattle.tree.proofs.Replace.{once_parts, outer_inside, slot_outer, beyond}
 use Rattle.table.specs.Segments.{allocated_in}
 use Rattle.table.specs.Placing.{Room, Outcome, got, no_space, place}
 use Rattle.table.specs.Laws.{Got, Fresh, Placed}
 use Rattle.table.proofs.Allocations.{fresh_place}
-use Rattle.law.specs.Exact.{zeroed, wiped, no_words, place_shape, opened, slot_word, placed}
+use Rattle.law.specs.Exact.{zeroed, wiped, no_words, place_shape, opened, slot_word}
 use Rattle.law.proofs.Spots.{Describable, tag_of, Spot, spot_empty, spot_near, spot_behind}
 
 -- ## Where an object is placed

@@ -1,10 +1,10 @@
 -- What an accepted call has passed.
-use Rattle.std.proofs.Common.{◌≡◌, ℕ, zero, suc, ◌+◌, ◌-◌, ◌<◌, ◌≤◌, Bool, true, false, cond, ◌&&◌, ◌||◌, eqb, ltb, leb, List, [], ◌∷◌, length, sym, refl, ap, subst, arith}
+use Rattle.std.proofs.Common.{◌≡◌, ℕ, zero, suc, ◌+◌, ◌<◌, ◌≤◌, Bool, true, false, cond, ltb, List, [], ◌∷◌, length, refl, arith}
 use Rattle.std.proofs.lemmas.Bool.{le-ltb, ltb-false, ltb-true, eqb-true, and_parts}
 use Rattle.std.proofs.lemmas.Bool.Decides.{nat_tests}
-use Rattle.tree.specs.Value.{Shape, Value, null, object, Step, Goes, value_at}
-use Rattle.law.specs.Calls.{Edit, Call, Answer, refused, nowhere}
-use Rattle.law.specs.Machine.{meets, went, bad_path, Verdict, fine, wrong, verdict, judge_path, judge, objection, makes_too_large, making, ruling}
+use Rattle.tree.specs.Value.{Value, null, object, Step, Goes, value_at}
+use Rattle.law.specs.Calls.{Call, refused, nowhere}
+use Rattle.law.specs.Machine.{meets, went, bad_path, fine, wrong, verdict, judge_path, judge, objection, makes_too_large, making}
 
 -- ## The parts of a path's judgment
 

@@ -1,13 +1,13 @@
 -- Reads answer what the words hold.
-use Rattle.std.proofs.Common.{◌≡◌, ℕ, zero, suc, ◌+◌, ◌*◌, ◌/◌, ◌%◌, ◌^◌, ◌<◌, ◌≤◌, Bool, true, false, cond, ◌&&◌, eqb, ltb, leb, ◌⊎◌, sym, refl, ap, ◌∙◌, subst, inl, inr, ⊎_elim, arith, lit≤}
+use Rattle.std.proofs.Common.{◌≡◌, ℕ, ◌+◌, ◌*◌, ◌<◌, ◌≤◌, true, leb, ap, ◌∙◌, ⊎_elim, arith, lit≤}
 use Rattle.std.proofs.lemmas.Bool.{leb-true, ltb-true, eqb-true, and_parts, cases_lt}
 use Rattle.wire.specs.Sizes.{element_bits}
-use Rattle.wire.specs.Elements.{element_word, element_bit, element_in}
-use Rattle.tree.specs.Value.{Element, Shape, structure, plain, composite, Value, object, element_code, place_word}
+use Rattle.wire.specs.Elements.{element_word, element_in}
+use Rattle.tree.specs.Value.{Shape, structure, plain, composite, Value, object, element_code}
 use Rattle.tree.specs.Shows.{Memory, Landing, land, Shows}
 use Rattle.tree.proofs.Context.{reached}
 use Rattle.law.specs.Calls.{Home, field, row, item}
-use Rattle.law.specs.Machine.{fits, no_number}
+use Rattle.law.specs.Machine.{no_number}
 use Rattle.law.specs.Reads.{number_in, number_word, ReadsStand}
 use Rattle.law.proofs.Fitting.{nine, fits_word, item_place}
 

@@ -1,29 +1,22 @@
 -- What an edit makes of a place, in words: every making but a rebuild.
-use Rattle.std.proofs.Common.{◌≡◌, ℕ, zero, suc, ◌+◌, ◌-◌, ◌*◌, ◌^◌, ◌<◌, ◌≤◌, Bool, true, false, cond, eqb, ltb, ◌≢◌, ◌⊎◌, List, [], ◌∷◌, length, get_or, sym, refl, ap, ◌∙◌, subst, inl, inr, ⊎_elim, arith}
-use mathlib.Core.Path.{fun_ext}
-use Rattle.std.proofs.lemmas.Bool.{lt-ltb, le-ltb, cases_lt, cases_eq}
-use Rattle.std.proofs.lemmas.List.{get_or_past}
-use Rattle.tree.specs.Value.{byte, Shape, structure, plain, composite, Value, null, object, rows, places, size, head, place_word, number, Step, Goes, value_at, put, blank, change}
-use Rattle.tree.specs.Shows.{Memory, Landing, land, span, Describes, Body, Shows, within, reach, walk, Sound}
-use Rattle.tree.specs.Edits.{outer, words, Cleared, New, Renumbered, taken}
+use Rattle.std.proofs.Common.{◌≡◌, ℕ, ◌+◌, ◌<◌, ◌≤◌, List, sym, ap, ◌∙◌, subst, ⊎_elim, arith}
+use Rattle.std.proofs.lemmas.Bool.{cases_lt}
+use Rattle.tree.specs.Value.{Shape, Value, null, object, rows, places, place_word, Step, Goes, value_at, put, blank, change}
+use Rattle.tree.specs.Shows.{Memory, Landing, land, span, reach, walk, Sound}
+use Rattle.tree.specs.Edits.{outer, Cleared, New, taken}
 use Rattle.tree.specs.Numbers.{place_put, place_bits, FitsPlace}
-use Rattle.tree.proofs.Count.{within_le, within_in, within_from, within_none}
-use Rattle.tree.proofs.Context.{change_here, change_else, reached}
+use Rattle.tree.proofs.Count.{within_in}
+use Rattle.tree.proofs.Context.{change_else}
 use Rattle.tree.proofs.Edits as edits
 use Rattle.tree.proofs.Blank as blanks
 use Rattle.tree.proofs.Blank.{fresh_within}
-use Rattle.tree.proofs.Frame.{describes_headed}
 use Rattle.tree.proofs.Numbers as numbers
 use Rattle.tree.proofs.Numbers.{place_word_in}
 use Rattle.tree.proofs.Values.{goes_put, value_at_put, put_put, put_walk}
 use Rattle.tree.proofs.Replace.{once_parts, outer_inside, slot_outer, beyond}
-use Rattle.table.specs.Placing.{Room, Outcome, got, no_space}
-use Rattle.law.specs.Calls.{Bytes}
-use Rattle.law.specs.Machine.{text_shape, letters}
-use Rattle.law.specs.Exact.{wiped, opened, slot_word, placed, spelled, text_word, sets}
+use Rattle.law.specs.Exact.{wiped, placed}
 use Rattle.law.proofs.Spots.{Spot}
-use Rattle.law.proofs.Letters.{letter_back}
-use Rattle.law.proofs.Inits.{counts, wiped_cleared, spot_new, taken_in}
+use Rattle.law.proofs.Inits.{wiped_cleared, spot_new}
 
 -- ## A place in a tree that is laid out
 

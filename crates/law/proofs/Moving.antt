@@ -1,17 +1,17 @@
 -- All children of an object move in rising order.
-use Rattle.std.proofs.Common.{◌≡◌, ℕ, zero, suc, ◌+◌, ◌-◌, ◌*◌, ◌^◌, ◌<◌, ◌≤◌, Bool, true, false, cond, ◌≢◌, ◌⊎◌, List, [], ◌∷◌, sym, refl, ap, ◌∙◌, subst, inl, inr, ⊎_elim, arith}
-use Rattle.std.proofs.lemmas.Bool.{cases_lt, cases_eq, true≢false}
-use Rattle.tree.specs.Value.{Shape, Value, null, object, rows, pointers, slot, Step}
-use Rattle.tree.specs.Shows.{Memory, Landing, land, span, Shows, within, totals, reach, walk}
-use Rattle.tree.specs.Edits.{Laid, Transferred, fixed, taken, slot_at}
+use Rattle.std.proofs.Common.{◌≡◌, ℕ, zero, suc, ◌+◌, ◌<◌, ◌≤◌, true, false, ◌⊎◌, List, sym, refl, ◌∙◌, subst, ⊎_elim, arith}
+use Rattle.std.proofs.lemmas.Bool.{cases_lt, true≢false}
+use Rattle.tree.specs.Value.{Shape, Value, rows, pointers, slot, Step}
+use Rattle.tree.specs.Shows.{Memory, Landing, land, span, Shows, within, reach, walk}
+use Rattle.tree.specs.Edits.{fixed, slot_at}
 use Rattle.tree.specs.Loops.{before, pick}
-use Rattle.tree.proofs.Count.{within_in, within_from, totals_term}
-use Rattle.tree.proofs.Shapes.{slot_in, slot_apart}
+use Rattle.tree.proofs.Count.{within_from, totals_term}
+use Rattle.tree.proofs.Shapes.{slot_apart}
 use Rattle.tree.proofs.Frame.{slot_within}
 use Rattle.tree.proofs.Index.{before_row, before_place, not_before_place, before_cases, pick_here}
-use Rattle.tree.proofs.Loop.{Moving, moving_start, moving_next, moving_row, moving_end}
-use Rattle.table.specs.Placing.{Room, Outcome, got, no_space, then, each}
-use Rattle.table.specs.Laws.{Later, After, Got}
+use Rattle.tree.proofs.Loop.{Moving, moving_next, moving_row}
+use Rattle.table.specs.Placing.{Room, Outcome, got, no_space, each}
+use Rattle.table.specs.Laws.{Later, Got}
 use Rattle.table.proofs.Allocations.{got_later}
 use Rattle.law.specs.Exact.{moved, moves}
 use Rattle.law.proofs.Inits.{counts, Small, got_here}

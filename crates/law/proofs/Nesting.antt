@@ -1,5 +1,5 @@
 -- Trees stay nested at most 64 deep.
-use Rattle.std.proofs.Common.{◌≡◌, ℕ, zero, suc, ◌+◌, ◌-◌, ◌<◌, ◌≤◌, List, [], ◌∷◌, length, refl, arith}
+use Rattle.std.proofs.Common.{◌≡◌, ℕ, zero, suc, ◌-◌, ◌≤◌, List, [], ◌∷◌, length, refl, arith}
 use Rattle.tree.specs.Value.{Value, null, object, value_at}
 use Rattle.tree.specs.Decode.{Deep}
 use Rattle.tree.proofs.Decoding.{deep_put}

@@ -1,27 +1,23 @@
 -- An object is rebuilt in a larger shape: the words of the definition show it with its numbers and children.
-use Rattle.std.proofs.Common.{◌≡◌, ℕ, zero, suc, ◌+◌, ◌-◌, ◌*◌, ◌/◌, ◌%◌, ◌^◌, ◌<◌, ◌≤◌, min, Bool, true, false, cond, eqb, ltb, ◌≢◌, ◌⊎◌, List, [], ◌∷◌, sym, refl, ap, ◌∙◌, subst, inl, inr, ⊎_elim, arith}
-use Rattle.std.proofs.lemmas.Bool.{cases_lt, cases_eq, lt-ltb, le-ltb}
-use Rattle.wire.specs.Sizes.{element_bits}
-use Rattle.tree.specs.Value.{Element, Shape, structure, plain, composite, Value, null, object, rows, pointers, places, size, head, slot, place_word, number, element_code, Step, Goes, value_at, put, change}
-use Rattle.tree.specs.Shows.{Memory, Landing, land, span, Paved, Body, Shows, within, reach, walk, Sound}
-use Rattle.tree.specs.Edits.{outer, taken, fixed, slot_at, Laid, Opened, Closed}
+use Rattle.std.proofs.Common.{◌≡◌, ℕ, ◌+◌, ◌*◌, ◌<◌, ◌≤◌, min, ◌≢◌, ◌⊎◌, List, sym, refl, ap, ◌∙◌, subst, inl, inr, ⊎_elim, arith}
+use Rattle.std.proofs.lemmas.Bool.{cases_lt}
+use Rattle.tree.specs.Value.{Shape, structure, plain, composite, Value, object, rows, pointers, places, size, head, slot, place_word, number, Step, value_at}
+use Rattle.tree.specs.Shows.{Memory, Landing, land, span, Paved, Body, Shows, within, walk}
+use Rattle.tree.specs.Edits.{outer, taken, Opened, Closed}
 use Rattle.tree.specs.Numbers.{place_bits}
-use Rattle.tree.specs.Loops.{before}
-use Rattle.tree.proofs.Count.{within_le, within_in, within_from}
+use Rattle.tree.proofs.Count.{within_in, within_from}
 use Rattle.tree.proofs.Shapes.{row_fits, row_apart, slot_in, slot_apart, slot_head}
-use Rattle.tree.proofs.Frame.{slot_within}
 use Rattle.tree.proofs.Context.{change_here, change_else, reached}
 use Rattle.tree.proofs.Relocate.{open_object, close_object}
-use Rattle.tree.proofs.Replace.{once_parts, slot_outer, outer_inside, beyond}
+use Rattle.tree.proofs.Replace.{slot_outer, outer_inside, beyond}
 use Rattle.tree.proofs.Loop.{moving_start, moving_end}
-use Rattle.table.specs.Placing.{Room, Outcome, got, no_space}
-use Rattle.table.specs.Laws.{Got}
-use Rattle.law.specs.Exact.{zeroed, opened, slot_word, copied, moves, closed}
+use Rattle.table.specs.Placing.{Room}
+use Rattle.law.specs.Exact.{zeroed, opened, slot_word, copied, closed}
 use Rattle.law.proofs.Spots.{Spot, tag_of}
-use Rattle.law.proofs.Inits.{counts, Small, taken_in, slot_apart_new, tag_there, opened_same, opened_body, zero_there, same_there, head_size}
+use Rattle.law.proofs.Inits.{counts, taken_in, slot_apart_new, tag_there, opened_same, opened_body, zero_there, same_there, head_size}
 use Rattle.law.proofs.Makings.{Site, Turned, slot_allocated, still_there}
 use Rattle.law.proofs.Copies.{all_else, all_here}
-use Rattle.law.proofs.Moving.{Inv, all_move}
+use Rattle.law.proofs.Moving.{Inv}
 
 -- ## Shapes that grow
 

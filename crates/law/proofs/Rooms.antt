@@ -1,14 +1,14 @@
 -- A call only allocates: old capacities stay and counts never fall.
-use Rattle.std.proofs.Common.{◌≡◌, ℕ, ◌+◌, Bool, true, false, cond, ◌&&◌, eqb, List, [], ◌∷◌, refl}
+use Rattle.std.proofs.Common.{ℕ, ◌+◌, eqb}
 use Rattle.wire.specs.Pointers.{pointer_kind}
 use Rattle.tree.specs.Value.{Shape, Value, null, object, rows, pointers, size, slot, value_at}
 use Rattle.tree.specs.Shows.{Memory, Landing, land, walk}
-use Rattle.table.specs.Placing.{Room, Outcome, got, no_space, then, each, place, pad, root}
+use Rattle.table.specs.Placing.{Room, pad, root}
 use Rattle.table.specs.Laws.{After}
 use Rattle.table.proofs.Allocations.{after_got, after_if, after_then, after_each, after_place, after_pad, after_root}
 use Rattle.law.specs.Calls.{Call}
 use Rattle.law.specs.Machine.{Making, keep, wipe, set, new, spell, rebuild, making, text_shape}
-use Rattle.law.specs.Exact.{no_words, place_shape, bridged, moved_word, moved, moves, closed, copied, opened, rebuilds, makes, placed, spelled, call_outcome, near_pointer}
+use Rattle.law.specs.Exact.{no_words, place_shape, moved, moves, rebuilds, makes, call_outcome}
 
 pub after_shape : (r : Room) (g w : ℕ) (sh : Shape) → After r (place_shape r g w sh)
 after_shape r g w sh = after_if r (no_words sh) _ _ (after_got r (g, w)) (after_place r g (size sh))

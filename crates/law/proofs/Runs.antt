@@ -1,6 +1,6 @@
 -- From the law of one call to runs, whatever the calls are.
 use Rattle.std.proofs.Common.{◌≡◌, ℕ, List, [], ◌∷◌, refl, arith}
-use Rattle.law.specs.Runs.{Machine, Play, Event, Run, last, Fed, feed, tree, answers, calls, replies, Untold, Follows, FollowsAlong, FedAlike}
+use Rattle.law.specs.Runs.{Machine, Play, Event, Run, last, Fed, feed, tree, answers, calls, replies, Follows, FollowsAlong, FedAlike}
 
 module _ {m : Machine} (p : Play m) (Holds : p.State → m.Tree → Type 0) (f : Follows p Holds) where
   run_ends : (s : p.State) (v : m.Tree) (es : List (Event p)) → Holds s v → Run p s v es → Holds (last p s es) (tree m v (feed p es))

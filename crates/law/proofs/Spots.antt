@@ -1,18 +1,15 @@
 -- A new object for a slot, wherever it is placed: in the slot itself (an empty struct), in the slot's segment, or behind a landing pad.
-use Rattle.std.proofs.Common.{◌≡◌, ℕ, zero, suc, ◌+◌, ◌-◌, ◌*◌, ◌^◌, ◌<◌, ◌≤◌, Bool, true, false, cond, ◌||◌, eqb, ◌≢◌, ◌⊎◌, sym, refl, ap, ◌∙◌, subst, inl, inr, ⊎_elim, arith}
+use Rattle.std.proofs.Common.{◌≡◌, ℕ, ◌+◌, ◌-◌, ◌*◌, ◌^◌, ◌<◌, ◌≤◌, true, false, cond, ◌||◌, eqb, ◌≢◌, sym, refl, ap, ◌∙◌, subst, ⊎_elim, arith}
 use Rattle.std.proofs.lemmas.Bool.{eq-eqb, ne_eqb, eqb-true, cases_eq}
-use Rattle.wire.specs.Pointers.{pointer_kind, high_half, pointer_target, struct_pointer, list_pointer, struct_list_tag, single_far, empty_struct}
-use Rattle.tree.specs.Value.{Element, Shape, structure, plain, composite, size, head, element_code, change}
+use Rattle.wire.specs.Pointers.{pointer_kind, pointer_target, struct_pointer, list_pointer, struct_list_tag, single_far, empty_struct}
+use Rattle.tree.specs.Value.{Shape, structure, plain, composite, size, head, element_code, change}
 use Rattle.tree.specs.Shows.{Memory, Landing, land, Paved, Describes, span, within}
 use Rattle.tree.specs.Edits.{taken}
 use Rattle.tree.proofs.PointerParts.{struct_kind, struct_target, list_kind, list_target, empty_parts}
-use Rattle.tree.proofs.Count.{within_le, within_in, within_from, within_none, within_cases}
+use Rattle.tree.proofs.Count.{within_le, within_in, within_from, within_none}
 use Rattle.tree.proofs.Blank.{within_cut}
 use Rattle.tree.proofs.Context.{change_here, change_else}
 use Rattle.tree.proofs.Roads.{land_direct, land_single, paved_direct, paved_single, describes_struct, describes_empty, describes_plain, describes_composite}
-use Rattle.table.specs.Segments.{allocated_in}
-use Rattle.table.specs.Placing.{Room}
-use Rattle.table.specs.Laws.{Later, Fresh}
 use Rattle.law.specs.Exact.{no_words, pointer_word, padded, tagged, opened, slot_word}
 
 -- ## Shapes that a pointer can describe

@@ -1,10 +1,10 @@
 -- After a call table and source fit together again: all follows from the outcome and the grants.
-use Rattle.std.proofs.Common.{◌≡◌, ℕ, zero, suc, ◌+◌, ◌^◌, ◌<◌, ◌≤◌, Bool, true, false, cond, eqb, List, [], ◌∷◌, ◌++◌, map, length, Some, None, sym, refl, ap, ◌∙◌, subst, arith, length-append}
+use Rattle.std.proofs.Common.{◌≡◌, ℕ, ◌+◌, eqb, List, [], ◌∷◌, ◌++◌, length, sym, ap, ◌∙◌, subst, arith}
 use Rattle.wire.specs.Pointers.{pointer_kind}
 use Rattle.tree.specs.Value.{Shape, Value, null, object, rows, pointers, size, slot, value_at}
 use Rattle.tree.specs.Shows.{Memory, Landing, land, walk}
 use Rattle.table.specs.Segments.{Table, capacities, all_fresh, Bounded}
-use Rattle.table.specs.Placing.{Room, room, Outcome, got, no_space, then, each, place, pad, root}
+use Rattle.table.specs.Placing.{Room, room, got, no_space, pad, root}
 use Rattle.table.specs.Laws.{Later, After}
 use Rattle.table.proofs.Tables.{append_assoc', append_none, capacities_length, capacities_append, capacities_fresh}
 use Rattle.table.proofs.Bounds.{firsts, seconds, Fair, Fits, Ends, fresh_bounded, ends_got, ends_then, ends_if, ends_each, ends_place, ends_pad, ends_root}

@@ -1,16 +1,16 @@
 -- What follows from the law of a call for tables and refusals.
-use Rattle.std.proofs.Common.{◌≡◌, ℕ, zero, suc, ◌+◌, ◌<◌, ◌≤◌, List, [], ◌∷◌, ◌++◌, length, get_or, drop, replicate, sym, refl, ap, ◌∙◌, subst, arith}
+use Rattle.std.proofs.Common.{◌≡◌, ℕ, zero, suc, ◌≤◌, List, [], ◌∷◌, ◌++◌, get_or, replicate, sym, refl, ap, ◌∙◌, subst, arith}
 use mathlib.Core.Path.{fun_ext}
 use Rattle.tree.specs.Value.{Value, null, object, value_at}
 use Rattle.tree.specs.Words.{word}
-use Rattle.table.specs.Segments.{Table, allocated_in, capacities, all_fresh}
+use Rattle.table.specs.Segments.{allocated_in, capacities}
 use Rattle.table.specs.Placing.{Room, room, Outcome, got, no_space}
 use Rattle.table.specs.Laws.{After}
 use Rattle.table.proofs.Tables.{append_none, drop_front, capacities_length, capacities_append, capacities_fresh, append_more, append_fresh}
-use Rattle.law.specs.Calls.{Edit, init_struct, init_list, init_rows, get_struct, get_rows, text, clear, write, Call, Answer, Refusal}
+use Rattle.law.specs.Calls.{Edit, init_struct, init_list, init_rows, get_struct, get_rows, text, clear, write, Call, Refusal}
 use Rattle.law.specs.Machine.{Verdict, fine, wrong, judge, judged, reply, effect}
-use Rattle.law.specs.Exact.{Written, call_outcome}
-use Rattle.law.specs.Law.{Source, State, memory, Meaning, Granted, zero_segments, met_in, Reply, told, TurnedDown, Accepted, Crowded, Placing, Lawful}
+use Rattle.law.specs.Exact.{Written}
+use Rattle.law.specs.Law.{Source, State, memory, Meaning, Granted, zero_segments, met_in, Reply, told, Placing, Lawful}
 use Rattle.law.specs.Drafts.{TablesStand}
 use Rattle.law.proofs.Rooms.{after_call}
 

@@ -1,21 +1,20 @@
 -- Texts: a new list of bytes, with its bytes written.
-use Rattle.std.proofs.Common.{◌≡◌, ℕ, zero, suc, ◌+◌, ◌-◌, ◌*◌, ◌/◌, ◌^◌, ◌<◌, ◌≤◌, Bool, true, false, cond, ltb, ◌⊎◌, List, [], ◌∷◌, length, get_or, sym, refl, ap, ◌∙◌, subst, inl, inr, ⊎_elim, arith}
-use Rattle.std.proofs.lemmas.Bool.{lt-ltb, le-ltb, cases_lt}
+use Rattle.std.proofs.Common.{◌≡◌, ℕ, zero, suc, ◌+◌, ◌-◌, ◌<◌, ◌≤◌, ◌⊎◌, List, length, sym, refl, ap, ◌∙◌, subst, inl, inr, arith}
 use Rattle.std.proofs.lemmas.List.{get_or_past}
 use Rattle.wire.specs.Elements.{element_word, element_in}
-use Rattle.tree.specs.Value.{byte, Shape, plain, Value, null, object, rows, places, size, Step, Goes, value_at, put, blank}
-use Rattle.tree.specs.Shows.{Memory, Landing, land, span, Describes, Body, within, reach, walk, Sound}
-use Rattle.tree.specs.Edits.{outer, words, Renumbered, taken}
-use Rattle.tree.proofs.Count.{within_in, within_none}
+use Rattle.tree.specs.Value.{Shape, Value, null, object, size, Step, Goes, value_at, put, blank}
+use Rattle.tree.specs.Shows.{Memory, span, Body, within, reach, walk, Sound}
+use Rattle.tree.specs.Edits.{outer, Renumbered}
+use Rattle.tree.proofs.Count.{within_in}
 use Rattle.tree.proofs.Edits as edits
 use Rattle.tree.proofs.Frame.{describes_headed}
-use Rattle.tree.proofs.Values.{goes_put, value_at_put, put_put, put_walk}
+use Rattle.tree.proofs.Values.{goes_put, value_at_put, put_put}
 use Rattle.law.specs.Calls.{Bytes}
 use Rattle.law.specs.Machine.{text_shape, letters}
 use Rattle.law.specs.Exact.{placed, spelled, text_word}
 use Rattle.law.proofs.Spots.{Spot}
 use Rattle.law.proofs.Letters.{letter_back}
-use Rattle.law.proofs.Makings.{Site, Turned, turn_new, new_leads, is_new, still_there, around_only}
+use Rattle.law.proofs.Makings.{Site, Turned, turn_new, new_leads, still_there, around_only}
 
 spelled_here : (H : Memory) (s t : ℕ) (bytes : List ℕ) (n : ℕ) → n < size (text_shape bytes) → spelled H s t bytes s (t + n) ≡ text_word bytes n
 spelled_here H s t bytes n h =

@@ -1,5 +1,5 @@
 -- Whatever an edit makes of a place: the words of the definition show the tree with that value there.
-use Rattle.std.proofs.Common.{◌≡◌, ℕ, zero, suc, ◌+◌, ◌^◌, ◌<◌, ◌≤◌, Bool, true, false, cond, ◌⊎◌, List, [], ◌∷◌, sym, refl, ap, ◌∙◌, subst, inl, inr, arith}
+use Rattle.std.proofs.Common.{◌≡◌, ℕ, ◌<◌, ◌≤◌, ◌⊎◌, List, [], ◌∷◌, sym, refl, ap, ◌∙◌, subst, inl, inr, arith}
 use mathlib.Core.Path.{fun_ext}
 use Rattle.std.proofs.lemmas.Bool.{cases_eq}
 use Rattle.tree.specs.Value.{Shape, Value, null, object, rows, places, Step, Goes, value_at, put, change, blank}
@@ -7,11 +7,11 @@ use Rattle.tree.specs.Shows.{Memory, Landing, land, walk, Sound}
 use Rattle.tree.specs.Numbers.{place_bits, FitsPlace}
 use Rattle.tree.proofs.Context.{change_here, change_else}
 use Rattle.table.specs.Placing.{Room, Outcome, got, no_space, then}
-use Rattle.table.specs.Laws.{Later, After, Got}
+use Rattle.table.specs.Laws.{Later, Got}
 use Rattle.table.proofs.Allocations.{got_later}
 use Rattle.law.specs.Calls.{Bytes}
 use Rattle.law.specs.Machine.{Making, keep, wipe, set, new, spell, rebuild, made, text_shape, letters}
-use Rattle.law.specs.Exact.{Written, place_shape, wiped, placed, spelled, opened, copied, moves, closed, sets, rebuilds, makes}
+use Rattle.law.specs.Exact.{Written, place_shape, wiped, placed, spelled, opened, copied, moves, closed, rebuilds, makes}
 use Rattle.law.proofs.Spots.{Describable, Spot}
 use Rattle.law.proofs.Inits.{counts, Small, got_here, AtSpot, spots, wiped_cleared}
 use Rattle.law.proofs.Rooms.{after_moves}

@@ -1,12 +1,12 @@
 -- Worked cases: the words that calls leave, computed on the definitions. Each segment is written down up to its allocated words.
 use Rattle.std.specs.Prelude.{◌≡◌, ℕ, zero, suc, ◌-◌, ◌^◌, List, [], ◌∷◌}
-use Rattle.tree.specs.Value.{bit, byte, pointer, Shape, structure, plain, composite, Value, null, blank, Step}
+use Rattle.tree.specs.Value.{bit, byte, pointer, structure, plain, composite, null, blank}
 use Rattle.tree.specs.Shows.{Memory}
 use Rattle.tree.specs.Words.{word}
 use Rattle.tree.specs.Decode.{decode}
 use Rattle.table.specs.Segments.{Segment, Table}
-use Rattle.table.specs.Placing.{Room, room, Outcome, got, no_space}
-use Rattle.law.specs.Calls.{Edit, init_struct, init_list, init_rows, get_struct, get_rows, text, clear, write, field, row, item, Call, Answer, refused, nowhere, value, sizes, no_sizes}
+use Rattle.table.specs.Placing.{room, Outcome, got, no_space}
+use Rattle.law.specs.Calls.{Edit, init_struct, init_list, init_rows, get_struct, get_rows, text, clear, write, field, row, item, Call, refused, nowhere, value, sizes}
 use Rattle.law.specs.Machine.{fine, wrong, judge, effect}
 use Rattle.law.specs.Reads.{look, number, shape}
 use Rattle.law.specs.Exact.{Written, call_outcome}

@@ -1,5 +1,5 @@
 -- Runs of calls on a draft.
-use Rattle.std.specs.Prelude.{◌≡◌, ℕ, ◌≤◌, List, [], ◌∷◌, ◌++◌}
+use Rattle.std.specs.Prelude.{◌≡◌, ℕ, ◌≤◌, List, ◌++◌}
 use Rattle.tree.specs.Value.{Value, null}
 use Rattle.tree.specs.Decode.{decode, Deep}
 use Rattle.table.specs.Segments.{allocated_in, capacities}

@@ -1,5 +1,5 @@
 -- What is enough for a call to be lawful. Code has to show only these.
-use Rattle.std.specs.Prelude.{◌≡◌, ℕ, ◌⊎◌, List, [], ◌∷◌, ◌++◌, length, None}
+use Rattle.std.specs.Prelude.{◌≡◌, ℕ, ◌⊎◌, List, [], ◌++◌, length, None}
 use Rattle.tree.specs.Value.{Value, value_at}
 use Rattle.table.specs.Segments.{all_fresh}
 use Rattle.table.specs.Placing.{Room, room, got, no_space}

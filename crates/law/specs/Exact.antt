@@ -1,12 +1,12 @@
 -- The words that an accepted call leaves, as a function of the words before it, the table and the capacities met. One function, `makes`,
 -- threads words and room; it looks only at what the edit makes of the place.
-use Rattle.std.specs.Prelude.{ℕ, zero, suc, ◌+◌, ◌-◌, ◌*◌, ◌^◌, min, Bool, true, false, cond, ◌&&◌, ◌||◌, List, [], ◌∷◌, length, ◌==◌, nat_lt, slice_index}
+use Rattle.std.specs.Prelude.{ℕ, zero, suc, ◌+◌, ◌-◌, ◌*◌, ◌^◌, min, Bool, false, cond, ◌&&◌, ◌||◌, List, ◌==◌, nat_lt, slice_index}
 use Rattle.wire.specs.Pointers.{pointer_kind, high_half, pointer_target, struct_pointer, list_pointer, struct_list_tag, single_far, double_far, empty_struct, re_aimed, unaimed}
 use Rattle.tree.specs.Value.{Shape, structure, plain, composite, Value, null, object, rows, pointers, places, size, slot, place_word, number, element_code, value_at, change}
-use Rattle.tree.specs.Shows.{Memory, Landing, land, span, walk, within, total, reach}
+use Rattle.tree.specs.Shows.{Memory, Landing, land, walk, within, total, reach}
 use Rattle.tree.specs.Edits.{taken}
 use Rattle.tree.specs.Numbers.{place_put}
-use Rattle.table.specs.Placing.{Room, Outcome, got, no_space, then, each, place, pad, root}
+use Rattle.table.specs.Placing.{Room, Outcome, got, then, each, place, pad, root}
 use Rattle.law.specs.Calls.{Call}
 use Rattle.law.specs.Machine.{Making, keep, wipe, set, new, spell, rebuild, making, text_shape}
 

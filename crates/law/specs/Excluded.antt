@@ -1,12 +1,12 @@
 -- Wrong behaviours that the law does not let through, and a run that it does.
-use Rattle.std.specs.Prelude.{◌≡◌, ℕ, zero, suc, ◌+◌, ◌-◌, min, max, Bool, cond, ◌&&◌, List, [], ◌∷◌, length, replicate, Some, None, Option, nat_le, nat_lt}
-use Rattle.tree.specs.Value.{Shape, structure, plain, pointer, Value, null, blank}
+use Rattle.std.specs.Prelude.{◌≡◌, ℕ, ◌+◌, ◌-◌, min, max, cond, ◌&&◌, List, [], ◌∷◌, length, replicate, Some, None, nat_le, nat_lt}
+use Rattle.tree.specs.Value.{structure, plain, pointer, Value, null, blank}
 use Rattle.tree.specs.Decode.{decode}
 use Rattle.tree.specs.Words.{word}
 use Rattle.table.specs.Segments.{Table}
-use Rattle.law.specs.Calls.{init_struct, init_list, get_struct, text, clear, write, field, item, Call, Typed, Answer, refused, nowhere, sizes, done}
+use Rattle.law.specs.Calls.{init_struct, init_list, get_struct, text, clear, write, field, item, Call, Typed, Answer, refused, nowhere, sizes}
 use Rattle.law.specs.Machine.{wrong, judge}
-use Rattle.law.specs.Law.{Offers, Meaning, Source, State, Holds, Reply, Lawful, Begun}
+use Rattle.law.specs.Law.{Offers, Source, State, Holds, Reply, Lawful, Begun}
 use Rattle.law.specs.Runs.{Event, Run}
 use Rattle.law.specs.Drafts.{drafting}
 use Rattle.law.specs.Cases.{seg, at_root, in_pointer}

@@ -1,6 +1,6 @@
 -- The law of a call: what it does between the state before it and the state after it.
-use Rattle.std.specs.Prelude.{◌≡◌, ℕ, zero, suc, ◌^◌, ◌<◌, ◌≤◌, Bool, true, false, cond, ◌⊎◌, List, [], ◌∷◌, ◌++◌, map, length, drop, replicate, Some, None, Option, ◌==◌}
-use Rattle.tree.specs.Value.{Shape, Value, null, value_at}
+use Rattle.std.specs.Prelude.{◌≡◌, ℕ, ◌^◌, ◌<◌, ◌≤◌, Bool, cond, ◌⊎◌, List, [], ◌∷◌, ◌++◌, map, length, drop, replicate, Some, None, Option, ◌==◌}
+use Rattle.tree.specs.Value.{Value, null}
 use Rattle.tree.specs.Shows.{Memory, land, walk}
 use Rattle.tree.specs.Words.{word}
 use Rattle.tree.specs.Extents.{WellLaid}

@@ -2,9 +2,9 @@
 use Rattle.std.specs.Prelude.{ℕ, zero, suc, ◌+◌, ◌-◌, ◌*◌, ◌^◌, min, max, Bool, true, false, cond, ◌&&◌, ◌||◌, List, [], ◌∷◌, length, ◌==◌, nat_le, nat_lt, slice_index}
 use Rattle.wire.specs.Sizes.{element_bits}
 use Rattle.wire.specs.Elements.{element_word, element_put}
-use Rattle.tree.specs.Value.{Element, byte, element_code, element_pointers, Shape, structure, plain, composite, Value, null, object, rows, pointers, Step, step_kind, value_at, change, put, blank}
+use Rattle.tree.specs.Value.{byte, element_code, element_pointers, Shape, structure, plain, composite, Value, null, object, rows, pointers, Step, step_kind, value_at, change, put, blank}
 use Rattle.tree.specs.Decode.{element_of_code}
-use Rattle.law.specs.Calls.{Home, field, row, item, Edit, init_struct, init_list, init_rows, get_struct, get_rows, text, clear, write, Call, Answer, refused, nowhere, sizes, no_sizes, done, value}
+use Rattle.law.specs.Calls.{Home, field, row, item, Edit, init_struct, init_list, init_rows, get_struct, get_rows, text, clear, write, Call, Answer, refused, nowhere, sizes, no_sizes, done}
 
 -- ## Paths
 

@@ -1,10 +1,10 @@
 -- Reads: they answer from the tree, and edit nothing.
-use Rattle.std.specs.Prelude.{◌≡◌, ℕ, ◌+◌, List, [], ◌∷◌}
+use Rattle.std.specs.Prelude.{◌≡◌, ℕ, ◌+◌, List}
 use Rattle.wire.specs.Elements.{element_word, element_in}
 use Rattle.tree.specs.Value.{Shape, Value, null, object, place_word, Step, Goes, value_at}
-use Rattle.tree.specs.Shows.{Memory, Landing, land, Shows, walk}
+use Rattle.tree.specs.Shows.{Memory, land, Shows, walk}
 use Rattle.tree.specs.Extents.{WellLaid}
-use Rattle.law.specs.Calls.{Home, field, row, item, Answer, sizes, no_sizes, value}
+use Rattle.law.specs.Calls.{Home, field, row, item, Answer, value}
 use Rattle.law.specs.Machine.{no_number, no_number_in, sizes_of, Verdict, fine, wrong, judge_path}
 
 pub data Query : Type 0 where

@@ -1,5 +1,5 @@
 -- The words of a line by their place, and what a reader of one argument answers.
-use Rattle.std.specs.Prelude.{◌≡◌, ℕ, zero, suc, List, [], ◌∷◌, Ok, Err, Result}
+use Rattle.std.specs.Prelude.{ℕ, zero, suc, List, [], ◌∷◌, Ok, Err, Result}
 use Rattle.std.specs.Borrow.{Bor}
 use Rattle.path.specs.declared.step.PathFault.{PathFault}
 use Rattle.path.specs.declared.step.PathFault.TheVariants as path
@@ -19,8 +19,8 @@ Exactly P (Ok x) = P x
 Exactly {T} P (Err e) = (x : T) → P x → ⊥
 
 -- what is said of a word that is no path
-abbrev pub pathFault : PathFault → Fault
-pathFault path.NoSlash = BadPath
-pathFault path.BadStep = BadPath
-pathFault path.TooLarge = PathNumberTooLarge
-pathFault path.Memory = Memory
+abbrev pub path_fault : PathFault → Fault
+path_fault path.NoSlash = BadPath
+path_fault path.BadStep = BadPath
+path_fault path.TooLarge = PathNumberTooLarge
+path_fault path.Memory = Memory

@@ -15,30 +15,30 @@ abbrev pub faulty : Stage → Fault → Turn
 faulty s f = record { stage = s; fault = Some f }
 
 -- only a name begins a case
-abbrev pub afterOutside : Sort → Turn
-afterOutside Case = right Named
-afterOutside Source = faulty Outside NoCase
-afterOutside Call = faulty Outside NoCase
-afterOutside End = faulty Outside NoCase
-afterOutside Unknown = right Outside
+abbrev pub after_outside : Sort → Turn
+after_outside Case = right Named
+after_outside Source = faulty Outside NoCase
+after_outside Call = faulty Outside NoCase
+after_outside End = faulty Outside NoCase
+after_outside Unknown = right Outside
 
 -- then comes the source, and nothing else
-abbrev pub afterNamed : Sort → Turn
-afterNamed Case = faulty Named NoSource
-afterNamed Source = right Ready
-afterNamed Call = faulty Named NoSource
-afterNamed End = faulty Outside NoSource
-afterNamed Unknown = right Named
+abbrev pub after_named : Sort → Turn
+after_named Case = faulty Named NoSource
+after_named Source = right Ready
+after_named Call = faulty Named NoSource
+after_named End = faulty Outside NoSource
+after_named Unknown = right Named
 
 -- then calls, and no other source; a new name may stand for the end
-abbrev pub afterReady : Sort → Turn
-afterReady Case = right Named
-afterReady Source = faulty Ready SecondSource
-afterReady Call = right Ready
-afterReady End = right Outside
-afterReady Unknown = right Ready
+abbrev pub after_ready : Sort → Turn
+after_ready Case = right Named
+after_ready Source = faulty Ready SecondSource
+after_ready Call = right Ready
+after_ready End = right Outside
+after_ready Unknown = right Ready
 
 abbrev pub following : Stage → Sort → Turn
-following Outside s = afterOutside s
-following Named s = afterNamed s
-following Ready s = afterReady s
+following Outside s = after_outside s
+following Named s = after_named s
+following Ready s = after_ready s

@@ -1,8 +1,8 @@
 // The arguments of a line by their place: each is there and is what the command wants, or the line has a problem at that place.
 ghost use Rattle.std.specs.Prelude.{◌≡◌, ◌^◌, ◌<◌, ◌≤◌, ◌⊎◌, List, length, MatchResult};
-ghost use Rattle.number.specs.Kinds.{kindName, ValueText};
+ghost use Rattle.number.specs.Kinds.{kind_name, ValueText};
 ghost use Rattle.number.specs.Numbers.{NumberText};
-ghost use Rattle.line.specs.Arguments.{word_at, Exactly, pathFault};
+ghost use Rattle.line.specs.Arguments.{word_at, Exactly, path_fault};
 ghost use Rattle.line.specs.declared.fault.Fault.TheVariants.{Memory};
 ghost use Rattle.path.specs.Paths.{PathText};
 ghost use Rattle.path.specs.declared.step.Step.{Step as AStep};
@@ -59,7 +59,7 @@ pub fn u32_at(words: &[&str], at: usize) -> Result<u32, Problem>
 }
 
 pub fn kind_at(words: &[&str], at: usize) -> Result<Kind, Problem>
-    ensures { Exactly (λ k. word_at words.now at ≡ kindName k) result }
+    ensures { Exactly (λ k. word_at words.now at ≡ kind_name k) result }
 {
     match read_kind(word_at(words, at)?) {
         Some(kind) => Ok(kind),
@@ -77,7 +77,7 @@ pub fn value_at(words: &[&str], at: usize, kind: Kind) -> Result<Value, Problem>
 }
 
 fn path_fault(fault: PathFault) -> Fault
-    ensures { result ≡ pathFault fault }
+    ensures { result ≡ path_fault fault }
 {
     match fault {
         PathFault::NoSlash | PathFault::BadStep => Fault::BadPath,

@@ -1,6 +1,6 @@
 // The order of a case's lines: its name, its source, then its calls. A fault does not stop the reading, so that every bad line is found.
 ghost use Rattle.std.specs.Prelude.{◌≡◌};
-ghost use Rattle.line.specs.Order.{right, faulty, afterOutside, afterNamed, afterReady, following};
+ghost use Rattle.line.specs.Order.{right, faulty, after_outside, after_named, after_ready, following};
 
 use crate::fault::Fault;
 
@@ -59,7 +59,7 @@ impl Turn {
 }
 
 fn after_outside(sort: Sort) -> Turn
-    ensures { result ≡ afterOutside sort }
+    ensures { result ≡ after_outside sort }
 {
     match sort {
         Sort::Case => Turn::to(Stage::Named),
@@ -69,7 +69,7 @@ fn after_outside(sort: Sort) -> Turn
 }
 
 fn after_named(sort: Sort) -> Turn
-    ensures { result ≡ afterNamed sort }
+    ensures { result ≡ after_named sort }
 {
     match sort {
         Sort::Source => Turn::to(Stage::Ready),
@@ -80,7 +80,7 @@ fn after_named(sort: Sort) -> Turn
 }
 
 fn after_ready(sort: Sort) -> Turn
-    ensures { result ≡ afterReady sort }
+    ensures { result ≡ after_ready sort }
 {
     match sort {
         Sort::Case => Turn::to(Stage::Named),

@@ -1,15 +1,15 @@
 -- New objects and texts as parts of a call.
-use Rattle.std.proofs.Common.{◌≡◌, ℕ, ◌+◌, ◌^◌, ◌<◌, ◌≤◌, Bool, false, List, length, sym, refl, ap, ◌∙◌, subst, arith}
+use Rattle.std.proofs.Common.{◌≡◌, ℕ, ◌+◌, ◌^◌, ◌<◌, ◌≤◌, false, List, length, sym, ap, ◌∙◌, subst, arith}
 use Rattle.std.proofs.lemmas.Bool.{lt-leb}
 use Rattle.tree.specs.Value.{Shape, Value, size, change}
 use Rattle.tree.specs.Shows.{Memory}
 use Rattle.table.specs.Segments.{Table, allocated_in}
-use Rattle.table.specs.Placing.{Room, Outcome, got}
+use Rattle.table.specs.Placing.{got}
 use Rattle.law.specs.Machine.{new, spell, text_shape, too_large}
 use Rattle.objects.specs.Rooms.{RoomThere}
 use Rattle.law.specs.Exact.{Written, wiped, opened, slot_word, placed, spelled, place_shape, makes}
 use Rattle.law.specs.Law.{Source, State, memory}
-use Rattle.effects.specs.States.{Sized, Clean, Rewritten, Prepared}
+use Rattle.effects.specs.States.{Rewritten, Prepared}
 use Rattle.effects.specs.Parts.{Went, Failed}
 use Rattle.effects.specs.Makes.{Slot}
 use Rattle.effects.proofs.Joins.{joins, fails_first, rewrites}

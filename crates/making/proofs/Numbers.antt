@@ -1,10 +1,10 @@
 -- A number of an object is one element of one word.
-use Rattle.std.proofs.Common.{◌≡◌, ℕ, ◌+◌, ◌*◌, ◌/◌, ◌%◌, ◌^◌, ◌<◌, ◌≤◌, Bool, true, false, cond, ◌&&◌, eqb, ltb, leb, sym, refl, ap, ◌∙◌, subst, ap₂, ⊎_elim, arith, lit≤}
+use Rattle.std.proofs.Common.{◌≡◌, ℕ, ◌+◌, ◌*◌, ◌%◌, ◌<◌, ◌≤◌, false, ◌&&◌, eqb, ltb, leb, sym, ap, ◌∙◌, ⊎_elim, arith, lit≤}
 use Rattle.std.proofs.lemmas.Bool.{leb-true, ltb-true, eqb-true, eq-eqb, ne_eqb, cond-true, cond-false, and_parts, cases_lt}
 use Rattle.wire.specs.Sizes.{element_bits, list_words}
 use Rattle.wire.specs.Elements.{element_word, element_put}
 use Rattle.tree.specs.Value.{Element, void, bit, byte, two_bytes, four_bytes, eight_bytes, pointer, element_code, element_pointers, Shape, structure, plain, composite, Value, null, object, size, change}
-use Rattle.tree.specs.Shows.{Memory, Landing, land, Shows, span}
+use Rattle.tree.specs.Shows.{Memory, Landing, land, Shows}
 use Rattle.tree.proofs.Decoding.{describes_shape}
 use Rattle.tree.proofs.Shapes.{row_fits}
 use Rattle.table.specs.Segments.{allocated_in}
@@ -14,7 +14,7 @@ use Rattle.law.specs.Machine.{Making, keep, making, numbering, no_number, no_num
 use Rattle.law.specs.Exact.{Written, makes}
 use Rattle.law.specs.Reads.{number_word}
 use Rattle.law.specs.Law.{State, memory}
-use Rattle.law.proofs.Fitting.{nine, fits_word, item_place}
+use Rattle.law.proofs.Fitting.{nine, fits_word}
 use Rattle.walk.specs.Shapes.{shape_meant}
 use Rattle.judging.specs.declared.site.Held.{Held}
 use Rattle.judging.specs.Sites.{Leads}

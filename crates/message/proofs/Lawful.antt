@@ -1,11 +1,11 @@
 -- An edit, from its decision and what came of it to the law.
-use Rattle.std.proofs.Common.{◌≡◌, ℕ, ◌%◌, ◌^◌, ◌<◌, ◌≤◌, List, Some, None, Ok, Err, Option, Result, sym, refl, ap, ◌∙◌, subst, mod-eq_of_lt}
+use Rattle.std.proofs.Common.{◌≡◌, ℕ, ◌%◌, ◌^◌, ◌<◌, ◌≤◌, List, Some, None, Err, Option, sym, refl, ap, ◌∙◌, subst, mod-eq_of_lt}
 use Rattle.tree.specs.Value.{Value, value_at}
 use Rattle.tree.specs.Shows.{Memory, Shows}
 use Rattle.arena.specs.declared.NoSpace.{NoSpace}
-use Rattle.law.specs.Calls.{Home, write, Call, Typed, Answer, refused, done}
+use Rattle.law.specs.Calls.{Home, write, Call, Typed, Answer, done}
 use Rattle.law.specs.Machine.{fine, wrong, judge, reply, effect}
-use Rattle.law.specs.Law.{Source, State, memory, Holds, Reply, met_in, Lawful}
+use Rattle.law.specs.Law.{Source, State, memory, Holds, Reply}
 use Rattle.law.specs.Enough.{PairIs}
 use Rattle.walk.specs.declared.shape.Shape.{Shape}
 use Rattle.judging.specs.declared.ruling.Ruling.{Ruling}
@@ -27,9 +27,8 @@ use Rattle.effects.specs.Parts.{Went}
 use Rattle.effects.specs.Makes.{Performs}
 use Rattle.effects.proofs.Calls.{lawful_rejected, lawful_accepted, lawful_crowded, holds_shows, holds_small}
 use Rattle.message.specs.declared.refusal.Placed.{Placed}
-use Rattle.message.specs.declared.refusal.Refused.{Refused}
-use Rattle.message.specs.declared.refusal.Refused.TheVariants.{Ruled, Crowded}
-use Rattle.message.specs.Refusals.{refusal_of, placed_as, reply_of, done_of}
+use Rattle.message.specs.declared.refusal.Refused.TheVariants.{Crowded}
+use Rattle.message.specs.Refusals.{refusal_of, placed_as}
 use Rattle.message.specs.Drafts.{KeepsTheLaw, call_of}
 
 -- on words that show a tree, f

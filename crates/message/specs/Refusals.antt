@@ -4,7 +4,7 @@ use Rattle.walk.specs.declared.shape.Shape.{Shape}
 use Rattle.judging.specs.declared.ruling.Ruling.{Ruling}
 use Rattle.judging.specs.Rulings.{answer_of}
 use Rattle.arena.specs.declared.NoSpace.{NoSpace}
-use Rattle.law.specs.Calls.{Answer, refused, done}
+use Rattle.law.specs.Calls.{refused, done}
 use Rattle.law.specs.Law.{Reply}
 use Rattle.deciding.specs.declared.edit.Edit.{Edit}
 use Rattle.deciding.specs.Edits.{says_of}

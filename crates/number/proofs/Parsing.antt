@@ -1,5 +1,5 @@
 -- Our digits and their worth are those that the library's `parse` reads and its `{n}` writes.
-use Rattle.std.proofs.Common.{◌≡◌, ℕ, ◌^◌, ◌<◌, ◌≤◌, ◌⊎◌, List, [], ◌∷◌, length, get_or, drop, ℤ, pos, neg_ℤ, Ok, Err, Result, sym, refl, ap, ◌∙◌, subst, inl, inr, ⊎_elim, arith, w32, rules, MatchResult}
+use Rattle.std.proofs.Common.{◌≡◌, ℕ, ◌^◌, ◌<◌, ◌≤◌, ◌⊎◌, List, ◌∷◌, length, get_or, drop, ℤ, Ok, Err, Result, sym, ap, subst, inl, inr, ⊎_elim, arith, w32, rules, MatchResult}
 use Rattle.std.specs.Str.Parse.{ParsesUnsigned, ParsesSigned}
 use Rattle.std.proofs.lemmas.Str.Parse.{IsNumeralModel, numerals_by_fold, tells_by_index, parse_digits, parse_signed_digits, parse_signed_minus}
 use Rattle.std.proofs.str.Laws.{order}

@@ -7,14 +7,14 @@ use Rattle.number.specs.declared.kind.Value.{Value}
 use Rattle.number.specs.declared.kind.Value.TheVariants as value
 use Rattle.number.specs.Numbers.{Numeral, worth, Signed}
 
-abbrev pub kindName : Kind → List ℕ
-kindName kind.Bool = codes "bool"
-kindName kind.Void = codes "void"
-kindName kind.U8 = codes "u8"
-kindName kind.U16 = codes "u16"
-kindName kind.U32 = codes "u32"
-kindName kind.U64 = codes "u64"
-kindName kind.I32 = codes "i32"
+abbrev pub kind_name : Kind → List ℕ
+kind_name kind.Bool = codes "bool"
+kind_name kind.Void = codes "void"
+kind_name kind.U8 = codes "u8"
+kind_name kind.U16 = codes "u16"
+kind_name kind.U32 = codes "u32"
+kind_name kind.U64 = codes "u64"
+kind_name kind.I32 = codes "i32"
 
 abbrev pub kind_of : Value → Kind
 kind_of (value.Bool b) = kind.Bool
@@ -27,8 +27,8 @@ kind_of (value.I32 n) = kind.I32
 
 -- a reader of kinds answers the kind that has the name, and none just where no kind has it
 abbrev pub ReadsKind : List ℕ → Option Kind → Type 0
-ReadsKind bs (Some k) = bs ≡ kindName k
-ReadsKind bs None = (k : Kind) → bs ≢ kindName k
+ReadsKind bs (Some k) = bs ≡ kind_name k
+ReadsKind bs None = (k : Kind) → bs ≢ kind_name k
 
 abbrev pub Below : ℕ → List ℕ → Type 0
 Below top bs = Numeral bs × (worth bs < top)

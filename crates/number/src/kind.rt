@@ -1,6 +1,6 @@
 // The kinds of numbers in a message, and values of each kind.
 ghost use Rattle.std.specs.Prelude.{◌≡◌};
-ghost use Rattle.number.specs.Kinds.{kindName, kind_of, ReadsKind, ReadsValue};
+ghost use Rattle.number.specs.Kinds.{kind_name, kind_of, ReadsKind, ReadsValue};
 ghost use Rattle.number.specs.declared.kind.Kind.TheVariants.{Bool as BoolKind, I32 as SignedKind, Void as VoidKind};
 
 use crate::decimal::{NumberFault, number_i32, number_u8, number_u16, number_u32, number_u64};
@@ -88,7 +88,7 @@ pub fn read_value(kind: Kind, word: &str) -> Result<Value, NumberFault>
 
 impl Kind {
     pub fn name(self) -> &'static str
-        ensures { result.now ≡ kindName self }
+        ensures { result.now ≡ kind_name self }
     {
         match self {
             Kind::Bool => "bool",

@@ -1,19 +1,18 @@
 -- An object's words, taken by the placing rule.
-use Rattle.std.proofs.Common.{◌≡◌, ℕ, ◌+◌, ◌<◌, ◌≤◌, Bool, true, false, cond, ◌⊎◌, List, [], ◌++◌, length, Ok, Err, Result, sym, refl, ap, ◌∙◌, subst, inl, inr, ⊎_elim, arith}
+use Rattle.std.proofs.Common.{◌≡◌, ℕ, ◌+◌, ◌<◌, ◌≤◌, true, false, [], ◌++◌, length, sym, refl, ap, ◌∙◌, subst, inl, inr, ⊎_elim, arith}
 use Rattle.std.proofs.lemmas.Bool.{cond-true, cond-false, eqb-true, cases_lt}
 use Rattle.tree.specs.Value.{Shape, structure, plain, composite, size}
 use Rattle.table.specs.Segments.{Table, allocated_in}
-use Rattle.table.specs.Placing.{Room, Outcome, got, place}
+use Rattle.table.specs.Placing.{Room, got, place}
 use Rattle.table.specs.Laws.{Got, Placed}
 use Rattle.table.proofs.Allocations.{allocations}
 use Rattle.table.proofs.Entries.{allocated_past}
 use Rattle.law.specs.Exact.{no_words, place_shape}
 use Rattle.law.specs.Law.{Source, State}
-use Rattle.arena.specs.declared.NoSpace.{NoSpace}
-use Rattle.effects.specs.Parts.{Went, Failed, Allocates}
+use Rattle.effects.specs.Parts.{Went, Failed}
 use Rattle.effects.proofs.Joins.{room_of, went_as, failed_as}
 use Rattle.effects.proofs.Allocations.{rests}
-use Rattle.objects.specs.Rooms.{RoomThere, Roomy}
+use Rattle.objects.specs.Rooms.{RoomThere}
 
 module _ (g w : ℕ) (sh : Shape) where
   shape_none : no_words sh ≡ true → (r : Room) → place_shape r g w sh ≡ got r (g, w)

@@ -1,7 +1,7 @@
 -- Where a new object lies, the numbers of its pointers are small enough.
-use Rattle.std.proofs.Common.{◌≡◌, ℕ, ◌+◌, ◌-◌, ◌^◌, ◌<◌, ◌≤◌, ◌≢◌, sym, ap, ◌∙◌, subst, ⊎_elim, arith}
+use Rattle.std.proofs.Common.{◌≡◌, ℕ, ◌-◌, ◌^◌, ◌<◌, ◌≢◌, sym, ap, ◌∙◌, subst, ⊎_elim, arith}
 use Rattle.std.proofs.lemmas.Bool.{cases_eq}
-use Rattle.tree.specs.Value.{Shape, size, change}
+use Rattle.tree.specs.Value.{Shape, change}
 use Rattle.tree.specs.Shows.{Memory}
 use Rattle.law.specs.Exact.{tagged}
 use Rattle.table.specs.declared.SegmentTable.{SegmentTable}

@@ -1,8 +1,7 @@
 -- Allocated words for a new object.
-use Rattle.std.specs.Prelude.{◌≡◌, ℕ, ◌+◌, ◌<◌, ◌≤◌, false, Ok, Err, Result, ◌≢◌}
+use Rattle.std.specs.Prelude.{ℕ, ◌+◌, ◌≤◌, Ok, Err, Result, ◌≢◌}
 use Rattle.tree.specs.Value.{Shape, size}
 use Rattle.table.specs.Segments.{Table, allocated_in}
-use Rattle.law.specs.Exact.{no_words}
 
 -- the words of an object of the shape from word p of segment s on are allocated, and so is the word before them if its slot is in another
 -- segment g

@@ -1,13 +1,13 @@
 -- Steps and paths that are shown are texts of themselves, and no text is of two.
-use Rattle.std.proofs.Common.{◌≡◌, ℕ, suc, ◌^◌, ◌<◌, ◌≤◌, Bool, true, false, cond, ◌&&◌, eqb, ◌⊎◌, List, [], ◌∷◌, ◌++◌, length, get_or, Ok, Err, vec_items, decimal, Result, sym, refl, ap, ◌∙◌, subst, inl, inr, arith, lit<, MatchResult}
+use Rattle.std.proofs.Common.{◌≡◌, ℕ, suc, ◌^◌, ◌<◌, Bool, true, false, cond, ◌&&◌, eqb, ◌⊎◌, List, [], ◌∷◌, ◌++◌, length, Ok, Err, vec_items, decimal, Result, sym, refl, ap, ◌∙◌, subst, inl, inr, arith, lit<, MatchResult}
 use Rattle.std.proofs.lemmas.Bool.Decides.{nat_tests}
 use Rattle.path.specs.declared.place.Place.{Place}
 use Rattle.path.specs.declared.step.PathFault.{PathFault}
 use Rattle.path.specs.declared.step.PathFault.TheVariants.{NoSlash, BadStep, TooLarge, Memory}
 use Rattle.path.specs.declared.step.Step.{Step}
 use Rattle.number.specs.Numbers.{worth}
-use Rattle.path.specs.Paths.{Steps, PathText, Unless, Fit, AllFit, shownSteps, shownPath}
-use Rattle.path.specs.Steps.{Number32, three, StepText, shownStep}
+use Rattle.path.specs.Paths.{Steps, PathText, Unless, Fit, AllFit, shown_steps, shown_path}
+use Rattle.path.specs.Steps.{Number32, three, StepText, shown_step}
 use Rattle.number.proofs.Again.{numeral_decimal, worth_decimal}
 use Rattle.path.proofs.PathSteps.{step_lacks}
 use Rattle.path.proofs.Splits.{Lacks, first_lacks, rest_lacks, digits_lack}
@@ -45,7 +45,7 @@ module _ (s : Step) (f : Fit s) where
   pointer_shown true e = inl (_, refl, (number32_decimal _ f.2, three_worth s _ _ _ (grind (arith, nat_tests)) (grind (arith, nat_tests)) (sym worth_pointer)))
   pointer_shown false e = element_shown (eqb s.kind 1 && eqb s.pointer 0) refl
 
-  pub step_shown : StepText (shownStep s) s
+  pub step_shown : StepText (shown_step s) s
   step_shown = pointer_shown (eqb s.kind 0 && eqb s.element 0) refl
 
 pub step_unique : (bs : List ℕ) (s t : Step) → StepText bs s → StepText bs t → s ≡ t
@@ -116,16 +116,16 @@ path_unique bs ss ts (inr p) (inr q) = steps_unique bs ss ts p.1 q.1
 rest_fit : (s : Step) (ss : List Step) → AllFit (s ∷ ss) → AllFit ss
 rest_fit s ss f i l = f (suc i) (omega arith)
 
-steps_shown : (ss : List Step) → AllFit ss → Steps (shownSteps ss) ss
+steps_shown : (ss : List Step) → AllFit ss → Steps (shown_steps ss) ss
 steps_shown [] f = refl
-steps_shown (s ∷ ss) f = (shownStep s, shownSteps ss, refl, step_shown s (f 0 (omega arith)), steps_shown ss (rest_fit s ss f))
+steps_shown (s ∷ ss) f = (shown_step s, shown_steps ss, refl, step_shown s (f 0 (omega arith)), steps_shown ss (rest_fit s ss f))
 
-pub path_shown : (ss : List Step) → AllFit ss → PathText (shownPath ss) ss
+pub path_shown : (ss : List Step) → AllFit ss → PathText (shown_path ss) ss
 path_shown [] f = inl (refl, refl)
 path_shown (s ∷ ss) f = inr (omega arith, steps_shown (s ∷ ss) f)
 
 -- what `reread_place` answers
-pub path_again : (bs : List ℕ) (ss : List Step) (r : Result Place PathFault) → bs ≡ shownPath ss → AllFit ss → MatchResult r (λ p. PathText bs (vec_items p.steps)) (λ e. Unless e ((ts : List Step) → PathText bs ts → ⊥)) → MatchResult r (λ p. vec_items p.steps ≡ ss) (λ e. e ≡ Memory)
+pub path_again : (bs : List ℕ) (ss : List Step) (r : Result Place PathFault) → bs ≡ shown_path ss → AllFit ss → MatchResult r (λ p. PathText bs (vec_items p.steps)) (λ e. Unless e ((ts : List Step) → PathText bs ts → ⊥)) → MatchResult r (λ p. vec_items p.steps ≡ ss) (λ e. e ≡ Memory)
 path_again bs ss (Ok p) e f h = path_unique bs (vec_items p.steps) ss h (subst (λ l. PathText l ss) (sym e) (path_shown ss f))
 path_again bs ss (Err NoSlash) e f h = absurd (h ss (subst (λ l. PathText l ss) (sym e) (path_shown ss f)))
 path_again bs ss (Err BadStep) e f h = absurd (h ss (subst (λ l. PathText l ss) (sym e) (path_shown ss f)))

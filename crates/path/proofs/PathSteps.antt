@@ -4,8 +4,8 @@ use Rattle.std.proofs.lemmas.List.{take_more, take_all}
 use Rattle.path.specs.declared.step.PathFault.{PathFault}
 use Rattle.path.specs.declared.step.PathFault.TheVariants.{NoSlash, BadStep, TooLarge, Memory}
 use Rattle.path.specs.declared.step.Step.{Step}
-use Rattle.path.specs.Paths.{Steps, PathText, Unless, shownSteps, shownPath}
-use Rattle.path.specs.Steps.{StepText, shownStep}
+use Rattle.path.specs.Paths.{Steps, PathText, Unless, shown_steps, shown_path}
+use Rattle.path.specs.Steps.{StepText, shown_step}
 use Rattle.path.proofs.Splits.{Lacks, same_split, at_cut, lacks_cons, lacks_append, digits_lack_low}
 
 -- no step has a slash in it
@@ -98,13 +98,13 @@ from_path bs rest ss e l (inl p) = absurd (let z = ap length (sym e ∙ p.0) in 
 from_path bs rest ss e l (inr p) = subst (λ x. Steps x ss) e p.1
 
 -- what is shown of a path
-pub shown_push : (ss : List Step) (s : Step) → shownSteps (ss ++ (s ∷ [])) ≡ shownSteps ss ++ (47 ∷ shownStep s)
-shown_push [] s = ap (λ l. 47 ∷ l) (append-nil (shownStep s))
-shown_push (t ∷ ss) s = ap (λ l. 47 ∷ l) (ap (λ l. shownStep t ++ l) (shown_push ss s) ∙ sym (append_assoc (shownStep t) (shownSteps ss) (47 ∷ shownStep s)))
+pub shown_push : (ss : List Step) (s : Step) → shown_steps (ss ++ (s ∷ [])) ≡ shown_steps ss ++ (47 ∷ shown_step s)
+shown_push [] s = ap (λ l. 47 ∷ l) (append-nil (shown_step s))
+shown_push (t ∷ ss) s = ap (λ l. 47 ∷ l) (ap (λ l. shown_step t ++ l) (shown_push ss s) ∙ sym (append_assoc (shown_step t) (shown_steps ss) (47 ∷ shown_step s)))
 
-pub shown_more : (ss : List Step) (i : ℕ) (d : Step) → i < length ss → shownSteps (take i ss) ++ (47 ∷ shownStep (get_or ss i d)) ≡ shownSteps (take (i + 1) ss)
-shown_more ss i d l = sym (ap shownSteps (take_more ss i d l) ∙ shown_push (take i ss) (get_or ss i d))
+pub shown_more : (ss : List Step) (i : ℕ) (d : Step) → i < length ss → shown_steps (take i ss) ++ (47 ∷ shown_step (get_or ss i d)) ≡ shown_steps (take (i + 1) ss)
+shown_more ss i d l = sym (ap shown_steps (take_more ss i d l) ∙ shown_push (take i ss) (get_or ss i d))
 
-pub shown_whole : (ss ts : List Step) (i : ℕ) → ts ≡ ss → (length ss ≡ 0 → ⊥) → length ts ≤ i → shownSteps (take i ts) ≡ shownPath ss
+pub shown_whole : (ss ts : List Step) (i : ℕ) → ts ≡ ss → (length ss ≡ 0 → ⊥) → length ts ≤ i → shown_steps (take i ts) ≡ shown_path ss
 shown_whole [] ts i e n l = absurd (n refl)
-shown_whole (s ∷ ss) ts i e n l = ap shownSteps (take_all i ts l ∙ e)
+shown_whole (s ∷ ss) ts i e n l = ap shown_steps (take_all i ts l ∙ e)

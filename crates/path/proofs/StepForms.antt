@@ -1,11 +1,11 @@
 -- The four forms of a step: where a text is cut, it can be read in one way only.
-use Rattle.std.proofs.Common.{◌≡◌, ℕ, ◌^◌, ◌<◌, ◌≤◌, ◌⊎◌, List, [], ◌∷◌, ◌++◌, length, get_or, Ok, Err, Result, sym, refl, ap, ◌∙◌, subst, inl, inr, arith, lit<}
+use Rattle.std.proofs.Common.{◌≡◌, ℕ, ◌^◌, ◌<◌, ◌≤◌, List, [], ◌∷◌, ◌++◌, length, get_or, Ok, Err, Result, sym, ap, ◌∙◌, subst, inl, inr, arith, lit<}
 use Rattle.number.specs.declared.decimal.NumberFault.{NumberFault}
 use Rattle.number.specs.declared.decimal.NumberFault.TheVariants.{NoDigits, TooLarge}
 use Rattle.path.specs.declared.step.PathFault.{PathFault}
 use Rattle.path.specs.declared.step.Step.{Step}
 use Rattle.number.specs.Numbers.{Numeral, worth, ReadsBelow}
-use Rattle.path.specs.Steps.{Number32, three, Pointer, Element, Row, Free, After, StepText, Exactly}
+use Rattle.path.specs.Steps.{Number32, three, Pointer, Element, Row, Free, StepText, Exactly}
 use Rattle.path.proofs.Splits.{Lacks, same_split, at_cut, digits_lack}
 
 pub refused : (top : ℕ) (bs : List ℕ) (e : NumberFault) → ReadsBelow top bs (Err e) → Numeral bs → worth bs < top → ⊥

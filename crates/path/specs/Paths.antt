@@ -3,7 +3,7 @@ use Rattle.std.specs.Prelude.{◌≡◌, ℕ, ◌^◌, ◌<◌, ◌⊎◌, List,
 use Rattle.path.specs.declared.step.PathFault.{PathFault}
 use Rattle.path.specs.declared.step.PathFault.TheVariants.{NoSlash, BadStep, TooLarge, Memory}
 use Rattle.path.specs.declared.step.Step.{Step}
-use Rattle.path.specs.Steps.{StepText, three, shownStep}
+use Rattle.path.specs.Steps.{StepText, three, shown_step}
 
 -- bs is the text of the steps, each with its slash
 abbrev pub Steps : List ℕ → List Step → Type 0
@@ -21,13 +21,13 @@ Unless BadStep P = P
 Unless TooLarge P = P
 Unless Memory P = Unit {0}
 
-abbrev pub shownSteps : List Step → List ℕ
-shownSteps [] = []
-shownSteps (s ∷ ss) = 47 ∷ (shownStep s ++ shownSteps ss)
+abbrev pub shown_steps : List Step → List ℕ
+shown_steps [] = []
+shown_steps (s ∷ ss) = 47 ∷ (shown_step s ++ shown_steps ss)
 
-abbrev pub shownPath : List Step → List ℕ
-shownPath [] = 47 ∷ []
-shownPath (s ∷ ss) = shownSteps (s ∷ ss)
+abbrev pub shown_path : List Step → List ℕ
+shown_path [] = 47 ∷ []
+shown_path (s ∷ ss) = shown_steps (s ∷ ss)
 
 -- each number of each step has 32 bits
 abbrev pub Fit : Step → Type 0

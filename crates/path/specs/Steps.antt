@@ -37,8 +37,8 @@ abbrev pub Exactly : (Step → Type 0) → Result Step PathFault → Type 0
 Exactly P (Ok s) = P s
 Exactly P (Err e) = (s : Step) → P s → ⊥
 
-abbrev pub shownStep : Step → List ℕ
-shownStep s =
+abbrev pub shown_step : Step → List ℕ
+shown_step s =
     cond (s.kind == 0 && s.element == 0) (112 ∷ decimal s.pointer)
     (cond (s.kind == 1 && s.pointer == 0) (101 ∷ decimal s.element)
     (cond (s.kind == 2) (114 ∷ (decimal s.element ++ (112 ∷ decimal s.pointer)))

@@ -1,6 +1,6 @@
 // A path: `/` for the root, or steps, each with a `/` before it.
 ghost use Rattle.std.specs.Prelude.{List, ◌∷◌, Some, MatchResult};
-ghost use Rattle.path.specs.Paths.{Steps, PathText, Unless, shownPath};
+ghost use Rattle.path.specs.Paths.{Steps, PathText, Unless, shown_path};
 ghost use Rattle.path.specs.declared.step.Step.{Step as AStep};
 
 use crate::step::{PathFault, Step, read_step};
@@ -45,7 +45,7 @@ pub fn read_place(heap: Global, word: &str) -> Result<Place, PathFault>
 }
 
 impl fmt::Display for Place {
-    ghost output = { λ p. Some (shownPath p.steps.items) };
+    ghost output = { λ p. Some (shown_path p.steps.items) };
 
     fn fmt<W: fmt::Write>(&self, f: &mut fmt::Formatter<W>) -> fmt::Result {
         if self.steps.is_empty() {

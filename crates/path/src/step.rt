@@ -1,6 +1,6 @@
 // One step of a path, read and shown: `pN`, `eN`, `rIpN`, or any three numbers as `k:e:p`.
 ghost use Rattle.std.specs.Prelude.{◌≡◌, Some};
-ghost use Rattle.path.specs.Steps.{Pointer, Element, Row, Free, StepText, Exactly, shownStep};
+ghost use Rattle.path.specs.Steps.{Pointer, Element, Row, Free, StepText, Exactly, shown_step};
 ghost use Rattle.path.specs.declared.step.PathFault.TheVariants.{Memory};
 
 use number::decimal::{NumberFault, number_u32};
@@ -121,7 +121,7 @@ pub fn read_step(word: &str) -> Result<Step, PathFault>
 }
 
 impl fmt::Display for Step {
-    ghost output = { λ s. Some (shownStep s) };
+    ghost output = { λ s. Some (shown_step s) };
 
     fn fmt<W: fmt::Write>(&self, f: &mut fmt::Formatter<W>) -> fmt::Result {
         let Step {

@@ -1,8 +1,8 @@
 -- What is made without room: the value stays, or becomes null.
-use Rattle.std.proofs.Common.{◌≡◌, ℕ, ◌+◌, ◌^◌, ◌<◌, ◌≤◌, List, sym, refl, ap, ◌∙◌, subst}
+use Rattle.std.proofs.Common.{◌≡◌, ℕ, sym, ap, ◌∙◌, subst}
 use Rattle.tree.specs.Value.{Value}
 use Rattle.tree.specs.Shows.{Memory, Landing, land}
-use Rattle.table.specs.Placing.{Room, Outcome, got}
+use Rattle.table.specs.Placing.{got}
 use Rattle.law.specs.Machine.{Making, keep, wipe}
 use Rattle.law.specs.Exact.{Written, wiped, makes}
 use Rattle.law.specs.Law.{Source, State, memory}

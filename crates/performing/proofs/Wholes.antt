@@ -1,5 +1,5 @@
 -- The root word and the edit, as one call.
-use Rattle.std.proofs.Common.{◌≡◌, ℕ, ◌+◌, ◌^◌, ◌<◌, ◌≤◌, Bool, false, leb, List, length, Some, Ok, Err, Result, sym, refl, ap, ◌∙◌, subst, ap₂, arith}
+use Rattle.std.proofs.Common.{◌≡◌, ℕ, ◌+◌, ◌^◌, ◌≤◌, false, List, length, Some, Ok, Err, Result, sym, ap, ◌∙◌, subst, arith}
 use Rattle.std.proofs.lemmas.Bool.{leb-false}
 use Rattle.tree.specs.Value.{Value, null, object, value_at}
 use Rattle.tree.specs.Shows.{Memory, land, Shows, walk}
@@ -10,10 +10,10 @@ use Rattle.table.specs.Placing.{root}
 use Rattle.table.specs.Meaning.{table_of}
 use Rattle.effects.proofs.Writing.{within_capacity}
 use Rattle.arena.specs.declared.NoSpace.{NoSpace}
-use Rattle.law.specs.Calls.{Call, Typed, write, Home}
+use Rattle.law.specs.Calls.{Call, write, Home}
 use Rattle.law.specs.Machine as machine
 use Rattle.law.specs.Machine.{fine, judge, too_large, makes_too_large, no_number_in, objection}
-use Rattle.law.specs.Exact.{Written, makes, call_outcome}
+use Rattle.law.specs.Exact.{makes, call_outcome}
 use Rattle.law.specs.Law.{Source, State, memory, Holds}
 use Rattle.law.proofs.Judged.{fine_goes, fine_ruling}
 use Rattle.walk.specs.Shapes.{shape_meant}
@@ -24,8 +24,7 @@ use Rattle.rebuilding.proofs.Growth.{larger_fine}
 use Rattle.deciding.specs.declared.edit.Making.{Making}
 use Rattle.deciding.specs.declared.edit.Making.TheVariants.{Keep, Wipe, New, Spell, Rebuild}
 use Rattle.deciding.specs.Edits.{making_of}
-use Rattle.deciding.specs.Deciding.{Rebuilds}
-use Rattle.effects.specs.States.{Sized, Clean, Rewritten, Prepared}
+use Rattle.effects.specs.States.{Prepared}
 use Rattle.effects.specs.Parts.{Went, Failed}
 use Rattle.effects.specs.Makes.{Slot, Makes}
 use Rattle.effects.proofs.Keeping.{prepared_none}

@@ -1,6 +1,6 @@
 -- The mark of which the steps of a rebuild speak: the state before it. An empty struct takes no new words, and nothing moves into it: for
 -- that, a mark at which nothing is allocated.
-use Rattle.std.proofs.Common.{◌≡◌, ℕ, zero, suc, ◌+◌, ◌<◌, ◌≤◌, Bool, true, false, ◌≢◌, ◌⊎◌, [], ◌++◌, sym, refl, ap, ◌∙◌, subst, inl, inr, ⊎_elim, arith}
+use Rattle.std.proofs.Common.{◌≡◌, ℕ, zero, suc, ◌+◌, ◌<◌, ◌≤◌, Bool, true, false, ◌≢◌, [], ◌++◌, sym, refl, ap, ◌∙◌, subst, inl, inr, ⊎_elim, arith}
 use Rattle.std.proofs.lemmas.Bool.{cond-false, eqb-true}
 use Rattle.tree.specs.Value.{Shape, structure, plain, composite, Value, object, rows, pointers, places, size}
 use Rattle.tree.specs.Shows.{Memory, Landing, land}

@@ -1,9 +1,8 @@
 -- What follows of a run from a new draft, and of two runs of one list.
-use Rattle.std.proofs.Common.{◌≡◌, ℕ, List, [], ◌∷◌, map, sym, refl, ap, ◌∙◌, subst, ap₂}
+use Rattle.std.proofs.Common.{◌≡◌, List, [], ◌∷◌, map, sym, refl, ap, ◌∙◌, subst, ap₂}
 use Rattle.tree.specs.Value.{Value, null}
-use Rattle.tree.specs.Decode.{decode}
-use Rattle.law.specs.Law.{Source, State, memory, Reply, told, Holds, Begun}
-use Rattle.law.specs.Runs.{Event, Run, last, Fed, feed, tree, calls, answers, replies, Untold}
+use Rattle.law.specs.Law.{Source, State, Reply, told, Holds, Begun}
+use Rattle.law.specs.Runs.{Event, Fed, feed, tree, calls, answers, replies, Untold}
 use Rattle.law.proofs.Drafts.{begun_holds, holds_decoded}
 use Rattle.law.proofs.Runs.{fed_alike}
 use Rattle.sessions.specs.Sessions.{Deed, whole_machine, sessions}

@@ -1,12 +1,12 @@
 -- Calls and answers as the law has them.
-use Rattle.std.specs.Prelude.{ℕ, List, [], ◌∷◌, Ok, Err, vec_items, Option, Result}
+use Rattle.std.specs.Prelude.{ℕ, List, [], ◌∷◌, Ok, Err, vec_items, Result}
 use Rattle.std.proofs.Common.{of_z}
 use Rattle.std.specs.Int.{w32}
 use Rattle.message.specs.declared.refusal.Placed.{Placed}
 use Rattle.message.specs.declared.refusal.Refused.{Refused}
 use Rattle.message.specs.Refusals.{refusal_of}
 use Rattle.wire.specs.Elements.{bit_of}
-use Rattle.law.specs.Calls.{write, Answer, value, done, refused}
+use Rattle.law.specs.Calls.{write, value, done, refused}
 use Rattle.law.specs.Reads.{number, shape}
 use Rattle.law.specs.Law as law
 use Rattle.walk.specs.declared.path.Step.{Step}
@@ -14,7 +14,7 @@ use Rattle.walk.specs.Slots.{steps_of}
 use Rattle.judging.specs.Rulings.{home_of, answer_of}
 use Rattle.judging.specs.Replies.{sizes_meant}
 use Rattle.deciding.specs.declared.edit.Edit.TheVariants as edits
-use Rattle.deciding.specs.Edits.{edit_of, says_of}
+use Rattle.deciding.specs.Edits.{edit_of}
 use Rattle.sessions.specs.Sessions.{Deed, edit, ask}
 use Rattle.replaying.specs.declared.calls.Number.{Number}
 use Rattle.replaying.specs.declared.calls.Number.TheVariants as numbers

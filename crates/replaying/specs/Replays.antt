@@ -1,5 +1,5 @@
 -- What a list of calls does.
-use Rattle.std.specs.Prelude.{◌≡◌, ℕ, List, [], ◌∷◌, map}
+use Rattle.std.specs.Prelude.{◌≡◌, List, [], ◌∷◌, map}
 use Rattle.tree.specs.Value.{Value, null}
 use Rattle.tree.specs.Decode.{decode}
 use Rattle.law.specs.Law.{Source, State, memory, Reply, told, Holds, Begun}

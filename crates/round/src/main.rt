@@ -3,15 +3,15 @@
 
 ghost use Rattle.std.specs.Prelude.{ℕ, ◌≤◌, length};
 
+mod drive;
+
 use anyhow::anyhow;
 use drive::run_case;
 use report::bad::Told;
 use report::command::Plan;
-
-mod drive;
-
 use script::command::Command;
 use script::read::{Numbered, Script, read_script};
+use std::process::ExitCode;
 use std::{env, fs};
 
 // What the tool is asked to do.
@@ -130,12 +130,13 @@ fn work(rt: &HostRuntime) -> anyhow::Result<()> {
     }
 }
 
-fn main(rt: HostRuntime) -> anyhow::Result<()> {
+// A failed write to standard error is passed over: the status tells of the failure all the same.
+fn main(rt: HostRuntime) -> ExitCode {
     match work(&rt) {
-        Ok(()) => Ok(()),
+        Ok(()) => ExitCode::SUCCESS,
         Err(e) => {
-            eprintln!(rt; "round: {e}")?;
-            Err(e)
+            let _ = eprintln!(rt; "round: {e}");
+            ExitCode::FAILURE
         }
     }
 }

@@ -4,8 +4,8 @@ use mathlib.Core.List.{List, [], ◌∷◌}
 use Prim.Native.Nat.{ℕ}
 use Rattle.tree.specs.Value.{Value, null}
 use Rattle.tree.specs.Decode.{Deep}
-use Rattle.law.specs.Law.{Source, State, memory, Holds, Begun, Reply}
-use Rattle.law.specs.Runs.{Machine, Play, Event, Run, last, Fed, feed, tree, answers, replies, Follows, FollowsAlong}
+use Rattle.law.specs.Law.{Source, State, Holds, Begun, Reply}
+use Rattle.law.specs.Runs.{Event, Run, last, Fed, feed, tree, answers, replies, FollowsAlong}
 use Rattle.law.proofs.Drafts.{begun_holds, holds_decoded}
 use Rattle.law.proofs.Nesting.{step_deep}
 use Rattle.law.proofs.Tables.{first_kept}

@@ -1,5 +1,5 @@
 -- Lists of calls on a draft, edits and reads together, and what holds of every one of them.
-use Rattle.std.specs.Prelude.{◌≡◌, List, [], ◌∷◌, ℕ}
+use Rattle.std.specs.Prelude.{◌≡◌, List, ℕ}
 use Rattle.tree.specs.Value.{Value, null, Step}
 use Rattle.tree.specs.Decode.{decode, Deep}
 use Rattle.law.specs.Calls.{Call, Answer}

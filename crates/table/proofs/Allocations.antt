@@ -1,7 +1,7 @@
 -- Allocations keep capacities, never lower counts, and give words that were not allocated.
-use Rattle.std.proofs.Common.{◌≡◌, ℕ, zero, suc, ◌+◌, ◌-◌, ◌<◌, ◌≤◌, Bool, true, false, cond, eqb, ltb, leb, ◌⊎◌, List, [], ◌∷◌, ◌++◌, length, sym, refl, ap, ◌∙◌, subst, inl, inr, arith}
+use Rattle.std.proofs.Common.{◌≡◌, ℕ, zero, suc, ◌+◌, ◌<◌, ◌≤◌, Bool, true, false, cond, eqb, ltb, leb, List, [], ◌∷◌, ◌++◌, length, sym, refl, ap, ◌∙◌, subst, inl, inr, arith}
 use Rattle.std.proofs.lemmas.Bool.{leb-true, leb-false, ltb-true}
-use Rattle.table.specs.Segments.{Segment, fresh, more, Table, allocated_in, left_in, capacities, take, first_fit}
+use Rattle.table.specs.Segments.{fresh, more, allocated_in, left_in, capacities, first_fit}
 use Rattle.table.specs.Placing.{Room, Outcome, got, no_space, then, each, in_segment, grant, anywhere, place, pad, root}
 use Rattle.table.specs.Laws.{Later, After, Got, Fresh, Placed, Padded, AllocationsStand}
 use Rattle.table.proofs.Extending.{extends_anywhere, extends_place, extends_pad, extends_root}

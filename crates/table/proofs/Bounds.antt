@@ -1,5 +1,5 @@
 -- Allocations keep the table within its bounds, if each grant gave what it was asked for.
-use Rattle.std.proofs.Common.{◌≡◌, ℕ, zero, suc, ◌+◌, ◌-◌, ◌^◌, ◌<◌, ◌≤◌, Bool, true, false, cond, eqb, ltb, leb, List, [], ◌∷◌, ◌++◌, length, sym, refl, ap, ◌∙◌, subst, arith}
+use Rattle.std.proofs.Common.{◌≡◌, ℕ, zero, suc, ◌+◌, ◌^◌, ◌<◌, ◌≤◌, Bool, true, false, cond, eqb, ltb, leb, List, [], ◌∷◌, ◌++◌, length, sym, refl, ap, ◌∙◌, arith}
 use Rattle.std.proofs.lemmas.Bool.{leb-true, ltb-true}
 use Rattle.table.specs.Segments.{Segment, fresh, more, Table, allocated_in, left_in, take, first_fit, all_fresh, Bounded}
 use Rattle.table.specs.Placing.{Room, Outcome, got, no_space, then, each, in_segment, grant, anywhere, place, pad, root}

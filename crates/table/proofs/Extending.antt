@@ -1,7 +1,7 @@
 -- What is got stays got where more segments are still to come: so a call's allocations can be put together one after another.
-use Rattle.std.proofs.Common.{◌≡◌, ℕ, zero, suc, ◌+◌, Bool, true, false, cond, eqb, ltb, leb, List, [], ◌∷◌, ◌++◌, length, sym, refl, ap, ◌∙◌, subst, arith}
-use Rattle.table.specs.Segments.{Segment, Table, allocated_in, left_in, first_fit, more, fresh}
-use Rattle.table.specs.Placing.{Room, extend, Outcome, got, no_space, then, each, in_segment, grant, anywhere, place, pad, root}
+use Rattle.std.proofs.Common.{◌≡◌, ℕ, ◌+◌, Bool, true, false, cond, eqb, ltb, leb, List, [], ◌∷◌, ◌++◌, length, refl, arith}
+use Rattle.table.specs.Segments.{allocated_in, left_in, first_fit}
+use Rattle.table.specs.Placing.{Room, extend, Outcome, got, no_space, then, in_segment, grant, anywhere, place, pad, root}
 
 -- f finds the same with more to come
 abbrev pub Extends : {A : Type 0} → (Room → Outcome A) → Type 0

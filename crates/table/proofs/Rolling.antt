@@ -1,11 +1,11 @@
 -- Entries that go back to a mark, one after another.
-use Rattle.std.proofs.Common.{◌≡◌, ℕ, zero, suc, ◌+◌, ◌^◌, ◌<◌, ◌≤◌, min, ◌≢◌, List, [], ◌∷◌, length, get_or, set, sym, refl, ap, ◌∙◌, ⊎_elim, arith, below_more}
+use Rattle.std.proofs.Common.{◌≡◌, ℕ, suc, ◌+◌, ◌<◌, ◌≤◌, min, ◌≢◌, List, [], ◌∷◌, length, get_or, set, sym, refl, ap, ◌∙◌, ⊎_elim, arith, below_more}
 use Rattle.std.proofs.lemmas.List.{length-set, get_or-set_same, get_or-set_other}
 use Rattle.std.proofs.lemmas.Bool.{cases_eq}
 use Rattle.table.specs.declared.SegmentEntry.{SegmentEntry}
 use Rattle.table.specs.Segments.{Segment, fresh, Table, allocated_in}
 use Rattle.table.specs.Entries.{no_entry, AllBounded}
-use Rattle.table.specs.Meaning.{segment_of, rolled_back}
+use Rattle.table.specs.Meaning.{rolled_back}
 use Rattle.table.proofs.Entries.{segments_of, count_is, entry_is}
 
 -- the entries below k are allocated as u says, at most up to their capacity, and every capacity is as it was

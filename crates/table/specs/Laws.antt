@@ -1,5 +1,5 @@
 -- What holds of allocations.
-use Rattle.std.specs.Prelude.{◌≡◌, ℕ, ◌+◌, ◌<◌, ◌≤◌, ◌⊎◌, List, [], ◌∷◌, ◌++◌, ◌≢◌}
+use Rattle.std.specs.Prelude.{◌≡◌, ℕ, ◌+◌, ◌≤◌, ◌⊎◌, List, ◌++◌, ◌≢◌}
 use Rattle.table.specs.Segments.{allocated_in, capacities}
 use Rattle.table.specs.Placing.{Room, extend, Outcome, got, no_space, anywhere, place, pad, root}
 

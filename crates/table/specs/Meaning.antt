@@ -1,5 +1,5 @@
 -- What a table in memory means, and what its calls answer and leave.
-use Rattle.std.specs.Prelude.{◌≡◌, ℕ, ◌+◌, ◌<◌, ◌≤◌, min, Bool, true, false, cond, ◌&&◌, List, [], ◌∷◌, ◌++◌, map, length, Some, None, Option, nat_le, nat_lt}
+use Rattle.std.specs.Prelude.{ℕ, min, Bool, cond, ◌&&◌, [], ◌∷◌, ◌++◌, map, length, Some, None, Option, nat_le, nat_lt}
 use Rattle.table.specs.declared.SegmentEntry.{SegmentEntry}
 use Rattle.table.specs.declared.SegmentTable.{SegmentTable}
 use Rattle.table.specs.Segments.{Segment, fresh, Table, allocated_in, left_in, take, first_fit}

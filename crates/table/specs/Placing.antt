@@ -1,7 +1,7 @@
 -- Where new words go, as functions of the table and of the capacities met. A new segment comes by a grant, whose capacity the source
 -- decides; given the capacities of the segments that a call is granted, in order, all else is decided here.
-use Rattle.std.specs.Prelude.{ℕ, zero, suc, ◌+◌, ◌-◌, Bool, cond, List, [], ◌∷◌, ◌++◌, length, ◌==◌, nat_le, nat_lt}
-use Rattle.table.specs.Segments.{Segment, fresh, more, Table, allocated_in, left_in, take, first_fit}
+use Rattle.std.specs.Prelude.{ℕ, zero, suc, ◌+◌, cond, List, [], ◌∷◌, ◌++◌, length, ◌==◌, nat_le, nat_lt}
+use Rattle.table.specs.Segments.{fresh, more, Table, allocated_in, left_in, take, first_fit}
 
 -- ## Rooms and outcomes
 

@@ -1,5 +1,5 @@
 -- The table of a draft: for each segment its allocated words and its capacity.
-use Rattle.std.specs.Prelude.{ℕ, zero, suc, ◌+◌, ◌-◌, ◌^◌, ◌<◌, ◌≤◌, Bool, cond, List, [], ◌∷◌, nat_le}
+use Rattle.std.specs.Prelude.{ℕ, zero, suc, ◌+◌, ◌-◌, ◌^◌, ◌<◌, ◌≤◌, cond, List, [], ◌∷◌, nat_le}
 
 pub record Segment : Type 0 where
   pub allocated : ℕ

@@ -1,9 +1,9 @@
 -- A text in hex, read pair by pair.
-use Rattle.std.proofs.Common.{◌≡◌, ℕ, zero, suc, ◌+◌, ◌-◌, ◌<◌, ◌≤◌, cond, List, [], ◌∷◌, ◌++◌, length, get_or, drop, Some, None, Option, sym, refl, ap, ◌∙◌, subst, inl, inr, append_assoc, append-nil, add-zero, arith, length-drop, get_or-drop}
+use Rattle.std.proofs.Common.{◌≡◌, ℕ, zero, suc, ◌+◌, ◌-◌, ◌<◌, ◌≤◌, List, [], ◌∷◌, ◌++◌, length, get_or, drop, Some, None, Option, sym, refl, ap, ◌∙◌, subst, append_assoc, append-nil, add-zero, arith, length-drop, get_or-drop}
 use Rattle.std.proofs.lemmas.List.{drop-drop}
 use Rattle.text.specs.declared.hex.TextFault.{TextFault}
 use Rattle.text.specs.declared.hex.TextFault.TheVariants.{BadHex, NoEnd, BadEscape, Memory}
-use Rattle.text.specs.Texts.{hexDigit, both, byte_of, HexPairs, HexText, Unless}
+use Rattle.text.specs.Texts.{hex_digit, both, byte_of, HexPairs, Unless}
 
 pub record Sofar (bs done : List ℕ) (at : ℕ) : Type 0 where
   pub sound : (vs : List ℕ) → HexPairs (drop at bs) vs → HexPairs bs (done ++ vs)
@@ -23,7 +23,7 @@ past (x ∷ xs) zero l = absurd (omega arith)
 past (x ∷ xs) (suc i) l = past xs i (omega arith)
 
 pub no_byte : (high low : ℕ) → low ≡ 0 → byte_of high low ≡ None
-no_byte high low e = ap (byte_of high) e ∙ both_none (hexDigit high)
+no_byte high low e = ap (byte_of high) e ∙ both_none (hex_digit high)
 
 pub unless_any : (e : TextFault) {P : Type 0} → P → Unless e P
 unless_any BadHex p = p

@@ -7,7 +7,7 @@ use Rattle.text.specs.declared.hex.TextFault.{TextFault}
 use Rattle.text.specs.declared.hex.TextFault.TheVariants.{NoEnd, BadEscape}
 use Rattle.text.specs.declared.quoted.Letter.{Letter}
 use Rattle.text.specs.declared.quoted.Letter.TheVariants.{Close, Byte, Bad}
-use Rattle.text.specs.Quotes.{hexed, escaped, letterOf, Used, Quoted}
+use Rattle.text.specs.Quotes.{hexed, escaped, letter_of, Used, Quoted}
 use Rattle.text.specs.Texts.{byte_of}
 use Rattle.text.proofs.Pairs.{past, no_byte}
 
@@ -44,7 +44,7 @@ module _ (bs : List ℕ) where
   pub used_escaped : Used (length bs) (escaped (get_or bs 1 0) (get_or bs 2 0) (get_or bs 3 0))
   used_escaped = used_quote (eqb (get_or bs 1 0) 34) refl
 
-  pub letter_escaped : 0 < length bs → get_or bs 0 0 ≡ 92 → letterOf bs ≡ escaped (get_or bs 1 0) (get_or bs 2 0) (get_or bs 3 0)
+  pub letter_escaped : 0 < length bs → get_or bs 0 0 ≡ 92 → letter_of bs ≡ escaped (get_or bs 1 0) (get_or bs 2 0) (get_or bs 3 0)
   letter_escaped l e = pick (length bs) (get_or bs 0 0) _ _ l e
 
 -- the bytes so far, and how far the text is read
@@ -53,7 +53,7 @@ pub record Sofar (bs done : List ℕ) (at : ℕ) : Type 0 where
   pub whole : (vs : List ℕ) (n : ℕ) → Quoted bs vs n → (ws : List ℕ) × (m : ℕ) × Quoted (drop at bs) ws m
 
 module _ {bs done : List ℕ} {at : ℕ} (old : Sofar bs done at) where
-  pub one_more : (v k : ℕ) → letterOf (drop at bs) ≡ Byte v k → Sofar bs (done ++ (v ∷ [])) (at + k)
+  pub one_more : (v k : ℕ) → letter_of (drop at bs) ≡ Byte v k → Sofar bs (done ++ (v ∷ [])) (at + k)
   one_more v k e = record {
     sound = λ vs m h.
         let p = old.sound (v ∷ vs) (k + m) (k, m, e, subst (λ x. Quoted x vs m) (sym (drop-drop k at bs)) h, refl) in
@@ -67,16 +67,16 @@ module _ {bs done : List ℕ} {at : ℕ} (old : Sofar bs done at) where
           let same : j ≡ k = cc in
           (ws, l, subst (λ x. Quoted x ws l) (ap (λ i. drop i (drop at bs)) same ∙ drop-drop k at bs) h)
 
-  pub bad_letter : (f : TextFault) → letterOf (drop at bs) ≡ Bad f → (vs : List ℕ) (n : ℕ) → Quoted bs vs n → ⊥
+  pub bad_letter : (f : TextFault) → letter_of (drop at bs) ≡ Bad f → (vs : List ℕ) (n : ℕ) → Quoted bs vs n → ⊥
   bad_letter f e vs n h = let p = old.whole vs n h in none p.0 p.1 p.2
     where
       none : (ws : List ℕ) (m : ℕ) → Quoted (drop at bs) ws m → ⊥
       none [] m h = let z : ◌≡◌ {A = ℕ} 0 1 = cc (h.0, e) in omega arith
       none (w ∷ ws) m (j, l, g, h, q) = let z : ◌≡◌ {A = ℕ} 0 1 = cc in omega arith
 
-  pub closed : letterOf (drop at bs) ≡ Close → Quoted bs done (at + 1)
+  pub closed : letter_of (drop at bs) ≡ Close → Quoted bs done (at + 1)
   closed e = subst (λ l. Quoted bs l (at + 1)) (append-nil done) (old.sound [] 1 (e, refl))
 
 -- a slice from an index to the end
-pub letter_from : (bs : List ℕ) (at : ℕ) → letterOf (drop at bs) ≡ letterOf (take (length bs - at) (drop at bs))
-letter_from bs at = ap letterOf (sym (take_all (length bs - at) (drop at bs) (omega (arith, length-drop at bs))))
+pub letter_from : (bs : List ℕ) (at : ℕ) → letter_of (drop at bs) ≡ letter_of (take (length bs - at) (drop at bs))
+letter_from bs at = ap letter_of (sym (take_all (length bs - at) (drop at bs) (omega (arith, length-drop at bs))))

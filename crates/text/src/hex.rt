@@ -1,6 +1,6 @@
 // The bytes of a text in hex, two digits a byte, or `-` for none.
 ghost use Rattle.std.specs.Prelude.{◌≡◌, ℕ, List, MatchResult};
-ghost use Rattle.text.specs.Texts.{hexDigit, byte_of, HexPairs, HexText, Unless};
+ghost use Rattle.text.specs.Texts.{hex_digit, byte_of, HexPairs, HexText, Unless};
 ghost use Rattle.text.specs.declared.hex.TextFault.TheVariants.{Memory};
 
 use std::alloc::{AllocError, AllocFailed, Global};
@@ -31,7 +31,7 @@ impl<T: Drop> From<AllocFailed<T>> for TextFault {
 }
 
 pub fn hex_digit(b: u8) -> Option<u8>
-    ensures { result ≡ hexDigit b }
+    ensures { result ≡ hex_digit b }
 {
     match b {
         b'0'..=b'9' => Some(b - b'0'),

@@ -1,6 +1,6 @@
 // Text in quotes: every byte stands for itself, but `\"`, `\\` and `\xHH` for a quote, a backslash and the byte HH.
 ghost use Rattle.std.specs.Prelude.{◌≡◌, ℕ, ◌<◌, ◌≤◌, List, length, MatchResult, slice_index};
-ghost use Rattle.text.specs.Quotes.{hexed, escaped, letterOf, Used, Quoted};
+ghost use Rattle.text.specs.Quotes.{hexed, escaped, letter_of, Used, Quoted};
 ghost use Rattle.text.specs.Texts.{byte_of, Unless};
 
 use crate::hex::{TextFault, hex_byte};
@@ -43,7 +43,7 @@ fn escape(mark: u8, high: u8, low: u8) -> Letter
 }
 
 fn next_letter(text: &[u8]) -> Letter
-    ensures is { result ≡ letterOf text.now }
+    ensures is { result ≡ letter_of text.now }
     ensures used { Used (length text.now) result }
 {
     if text.is_empty() {

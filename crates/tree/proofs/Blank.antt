@@ -1,12 +1,10 @@
 -- A new object of zeros and nulls.
-use Rattle.std.proofs.Common.{◌≡◌, ℕ, zero, suc, ◌+◌, ◌-◌, ◌*◌, ◌/◌, ◌%◌, ◌^◌, ◌<◌, ◌≤◌, ◌≢◌, ◌⊎◌, List, [], ◌∷◌, sym, refl, ap, ◌∙◌, subst, ap₂, inl, inr, ⊎_elim, arith}
-use mathlib.Core.Path.{fun_ext}
-use Rattle.std.proofs.lemmas.Bool.{cases_lt, cases_eq}
-use Rattle.wire.specs.Pointers.{pointer_kind, pointer_target, single_far}
-use Rattle.tree.specs.Value.{Shape, structure, plain, composite, Value, null, object, rows, pointers, places, size, slot, head, number, Step, Goes, value_at, put, blank}
-use Rattle.tree.specs.Shows.{span, Memory, Landing, land, Paved, Describes, Body, Shows, within, totals, reach, walk, rest, Sound}
+use Rattle.std.proofs.Common.{◌≡◌, ℕ, ◌+◌, ◌<◌, ◌≤◌, List, sym, refl, ◌∙◌, ⊎_elim, arith}
+use Rattle.std.proofs.lemmas.Bool.{cases_lt}
+use Rattle.tree.specs.Value.{Shape, Value, null, rows, pointers, slot, Step, Goes, value_at, put, blank}
+use Rattle.tree.specs.Shows.{span, Memory, Landing, Shows, within, reach, walk, Sound}
 use Rattle.tree.specs.Edits.{pads, words, Filled, Placed, New, Beside, Behind}
-use Rattle.tree.proofs.Count.{within_le, within_in, within_from, within_cases, within_view, within_none, totals_zero}
+use Rattle.tree.proofs.Count.{within_le, within_from, within_view, within_none, totals_zero}
 use Rattle.tree.proofs.Shapes.{slot_in, slot_head, number_zero}
 use Rattle.tree.proofs.Roads.{land_direct, land_single, paved_direct, paved_single}
 use Rattle.tree.proofs.Edits.{fill}

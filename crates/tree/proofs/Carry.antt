@@ -1,17 +1,14 @@
 -- A child moves to another slot: its object stays where it is, and only the way there changes.
-use Rattle.std.proofs.Common.{◌≡◌, ℕ, zero, suc, ◌+◌, ◌-◌, ◌*◌, ◌/◌, ◌%◌, ◌^◌, ◌<◌, ◌≤◌, ◌≢◌, ◌⊎◌, List, [], ◌∷◌, sym, refl, ap, ◌∙◌, subst, ap₂, inl, inr, ⊎_elim, arith}
-use mathlib.Core.Path.{fun_ext}
-use Rattle.std.proofs.lemmas.Bool.{cases_lt, cases_eq}
-use Rattle.wire.specs.Pointers.{aimed_at, low_half, high_half, pointer_kind, offset_field, pointer_target, data_words, pointer_words, list_code, list_count, far_segment, far_word, far_mark, offset_between, single_far, double_far, empty_struct, re_aimed, unaimed}
-use Rattle.tree.specs.Value.{Shape, structure, plain, composite, Value, null, object, rows, pointers, places, size, slot, head, number}
-use Rattle.tree.specs.Shows.{spare, span, Memory, Way, direct, single, double, way, Landing, landing, land, Road, Paved, Describes, Body, Shows, within, total, totals, reach}
+use Rattle.std.proofs.Common.{◌≡◌, ℕ, ◌+◌, ◌^◌, ◌<◌, ◌≤◌, sym, refl, ap, ◌∙◌, ⊎_elim, arith}
+use Rattle.std.proofs.lemmas.Bool.{cases_lt}
+use Rattle.wire.specs.Pointers.{aimed_at, high_half, pointer_kind, offset_field, pointer_target, offset_between, re_aimed, unaimed}
+use Rattle.tree.specs.Value.{Shape, structure, plain, composite, Value, object, rows, pointers, size, slot}
+use Rattle.tree.specs.Shows.{spare, Memory, land, Paved, Describes, Shows, reach}
 use Rattle.tree.specs.Edits.{pads, words}
-use Rattle.tree.proofs.Count.{within_le, within_in, within_from, within_cases, within_none, totals_ext, totals_term}
+use Rattle.tree.proofs.Count.{within_none, totals_ext}
 use Rattle.tree.proofs.Shapes.{slot_in, number_local}
-use Rattle.tree.proofs.Frame.{Agree, frame, frame_reach, agree_body, agree_kid, describes_same, PadsSame, spare_empty}
-use Rattle.tree.proofs.Context.{kids}
+use Rattle.tree.proofs.Frame.{Agree, frame, frame_reach, describes_same, spare_empty}
 use Rattle.tree.proofs.PointerParts.{aim_offset}
-use Rattle.tree.proofs.Roads.{land_by, paved_by, way_direct, land_direct, land_single, land_double, paved_direct, paved_single, paved_double}
 
 -- ## The move, whatever the way
 

@@ -1,12 +1,12 @@
 -- A value with another put at a path's end: what stands around the slot stays.
-use Rattle.std.proofs.Common.{◌≡◌, ℕ, zero, suc, ◌+◌, ◌-◌, ◌*◌, ◌/◌, ◌%◌, ◌^◌, ◌<◌, ◌≤◌, Bool, true, false, cond, ◌&&◌, eqb, ◌≢◌, ◌⊎◌, List, [], ◌∷◌, sym, refl, ap, ◌∙◌, subst, ap₂, inl, inr, ⊎_elim, arith}
-use Rattle.std.proofs.lemmas.Bool.{cases_lt, cases_eq, eq-eqb, ne_eqb, and_left, and_right}
-use Rattle.tree.specs.Value.{Element, Shape, structure, plain, composite, Value, null, object, rows, pointers, places, size, slot, number, Step, Meets, Goes, value_at, put, change}
-use Rattle.tree.specs.Shows.{span, Memory, Landing, land, Paved, Body, Shows, within, total, totals, reach, walk, rest}
+use Rattle.std.proofs.Common.{◌≡◌, ℕ, ◌+◌, ◌<◌, ◌≤◌, cond, ◌&&◌, eqb, ◌≢◌, ◌⊎◌, List, [], ◌∷◌, sym, refl, subst, inl, inr, ⊎_elim, arith}
+use Rattle.std.proofs.lemmas.Bool.{cases_eq, eq-eqb, ne_eqb}
+use Rattle.tree.specs.Value.{Shape, Value, null, object, rows, pointers, size, slot, Step, Goes, value_at, change}
+use Rattle.tree.specs.Shows.{span, Memory, land, Shows, within, totals, reach, walk, rest}
 use Rattle.tree.specs.Edits.{pads, words}
-use Rattle.tree.proofs.Count.{within_le, within_in, within_from, within_cases, within_none, totals_ext, totals_term, totals_pos, totals_change}
-use Rattle.tree.proofs.Shapes.{slot_in, slot_apart, number_local}
-use Rattle.tree.proofs.Frame.{PadsSame, BodySame, land_same, paved_same, body_same, slot_within, Agree, frame, frame_reach}
+use Rattle.tree.proofs.Count.{within_in, within_from, within_cases, totals_term, totals_change}
+use Rattle.tree.proofs.Shapes.{slot_in, slot_apart}
+use Rattle.tree.proofs.Frame.{PadsSame, land_same, paved_same, body_same, Agree, frame, frame_reach}
 
 pub change_here : {A : Type 0} (f : ℕ → ℕ → A) (i j : ℕ) (u : A) → change f i j u i j ≡ u
 unfolding change

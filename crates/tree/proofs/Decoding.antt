@@ -1,13 +1,12 @@
 -- A slot shows one value, and decoding finds it.
-use Rattle.std.proofs.Common.{◌≡◌, ℕ, zero, suc, ◌+◌, ◌-◌, ◌*◌, ◌/◌, ◌%◌, ◌^◌, ◌<◌, ◌≤◌, Bool, true, false, cond, ◌&&◌, eqb, ltb, ◌≢◌, ◌⊎◌, List, [], ◌∷◌, length, sym, refl, ap, ◌∙◌, subst, ap₂, inl, inr, ⊎_elim, arith}
+use Rattle.std.proofs.Common.{◌≡◌, ℕ, zero, suc, ◌+◌, ◌<◌, ◌≤◌, true, false, cond, ◌&&◌, eqb, ltb, ◌⊎◌, List, [], ◌∷◌, length, sym, refl, ap, ◌∙◌, subst, ap₂, inl, inr, ⊎_elim, arith}
 use mathlib.Core.Path.{fun_ext}
-use Rattle.std.proofs.lemmas.Bool.{cases_lt, cases_eq, eq-eqb, ne_eqb, lt-ltb, le-ltb, and_left, and_right}
-use Rattle.wire.specs.Pointers.{pointer_kind, offset_field, data_words, pointer_words, list_code, list_count}
-use Rattle.tree.specs.Value.{Element, void, bit, byte, two_bytes, four_bytes, eight_bytes, pointer, Shape, structure, plain, composite, Value, null, object, rows, pointers, places, size, slot, number, element_code, Step, value_at, put, change}
-use Rattle.tree.specs.Shows.{span, Memory, Landing, land, Paved, Describes, Body, Shows, within, reach}
-use Rattle.tree.specs.Decode.{element_of_code, shape_of, shape_at, decode, Deep}
+use Rattle.std.proofs.lemmas.Bool.{cases_lt, eq-eqb, ne_eqb, lt-ltb, le-ltb, and_left, and_right}
+use Rattle.wire.specs.Pointers.{pointer_kind, list_code}
+use Rattle.tree.specs.Value.{Element, void, bit, byte, two_bytes, four_bytes, eight_bytes, pointer, Shape, structure, plain, composite, Value, null, object, rows, pointers, places, slot, number, element_code, Step, value_at, put, change}
+use Rattle.tree.specs.Shows.{Memory, land, Describes, Shows}
+use Rattle.tree.specs.Decode.{element_of_code, shape_of, decode, Deep}
 use Rattle.tree.proofs.Roads.{paved_live}
-use Rattle.tree.proofs.Context.{change_here, change_else}
 
 element_back_again : (c : Element) → element_of_code (element_code c) ≡ c
 element_back_again void = refl

@@ -1,14 +1,12 @@
 -- Edits at a path: clear, fill, a change of numbers.
-use Rattle.std.proofs.Common.{◌≡◌, ℕ, zero, suc, ◌+◌, ◌-◌, ◌*◌, ◌/◌, ◌%◌, ◌^◌, ◌<◌, ◌≤◌, ◌≢◌, ◌⊎◌, List, [], ◌∷◌, sym, refl, ap, ◌∙◌, subst, ap₂, inl, inr, ⊎_elim, arith}
-use mathlib.Core.Path.{fun_ext}
-use Rattle.std.proofs.lemmas.Bool.{cases_lt, cases_eq}
-use Rattle.tree.specs.Value.{Shape, structure, plain, composite, Value, null, object, rows, pointers, places, size, slot, number, Step, Goes, value_at, put, change}
-use Rattle.tree.specs.Shows.{span, Memory, Landing, land, Paved, Describes, Body, Shows, within, totals, reach, walk, rest, Sound}
-use Rattle.tree.specs.Edits.{words, outer, Cleared, Filled, Renumbered}
-use Rattle.tree.proofs.Count.{within_le, within_in, within_from, within_cases, totals_pos, totals_term, totals_zero, totals_ext}
-use Rattle.tree.proofs.Shapes.{slot_in}
+use Rattle.std.proofs.Common.{◌≡◌, ℕ, ◌+◌, ◌<◌, ◌≤◌, ◌⊎◌, List, refl, ap, ◌∙◌, subst, ap₂, inl, inr, ⊎_elim, arith}
+use Rattle.std.proofs.lemmas.Bool.{cases_lt}
+use Rattle.tree.specs.Value.{Shape, Value, null, object, rows, pointers, slot, Step, Goes, value_at, put}
+use Rattle.tree.specs.Shows.{Memory, land, Shows, reach, walk, Sound}
+use Rattle.tree.specs.Edits.{outer, Cleared, Filled, Renumbered}
+use Rattle.tree.proofs.Count.{within_in, totals_term, totals_ext}
 use Rattle.tree.proofs.Frame.{Agree, frame, frame_reach, land_same, paved_same}
-use Rattle.tree.proofs.Context.{split, reached, slot_counted, Once, kids, change_here, change_else, totals_two}
+use Rattle.tree.proofs.Context.{split, reached, Once, kids}
 use Rattle.tree.proofs.Replace.{Around, once_parts, slot_outer, outer_inside, replace, once_end}
 
 module _ (H H' : Memory) (a a' : ℕ → ℕ) (v : Value) (p : List Step) (go : Goes v p) (ok : Sound H a v) where

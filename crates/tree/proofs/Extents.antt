@@ -1,11 +1,9 @@
 -- Extents that do not overlap, and words that are counted at most once.
-use Rattle.std.proofs.Common.{◌≡◌, ℕ, zero, suc, ◌+◌, ◌-◌, ◌*◌, ◌<◌, ◌≤◌, ◌≢◌, ◌⊎◌, ◌↔◌, List, [], ◌∷◌, ◌++◌, sym, refl, ap, ◌∙◌, subst, ap₂, inl, inr, ⊎_elim, arith}
-use mathlib.Core.Path.{fun_ext}
-use Rattle.std.proofs.lemmas.Bool.{cases_lt, cases_eq}
-use Rattle.tree.specs.Value.{Shape, Value, null, object, rows, pointers, size, slot}
-use Rattle.tree.specs.Shows.{span, Memory, Landing, land, Body, Shows, within, total, totals, reach, Sound}
+use Rattle.std.proofs.Common.{◌≡◌, ℕ, zero, suc, ◌+◌, ◌<◌, ◌≤◌, List, [], ◌∷◌, ◌++◌, refl, ◌∙◌, ⊎_elim, arith}
+use Rattle.tree.specs.Value.{Value, null, object, rows, pointers, slot}
+use Rattle.tree.specs.Shows.{Memory, land, Shows, within, total, reach, Sound}
 use Rattle.tree.specs.Extents.{Extent, Has, Every, Disjoint, gather, extents, parts, WellLaid}
-use Rattle.tree.proofs.Count.{within_le, within_in, within_from, within_cases, total_ext, totals_ext}
+use Rattle.tree.proofs.Count.{within_in, within_cases, total_ext}
 
 -- how many extents have the word
 unfoldable pub cover : List Extent → ℕ → ℕ → ℕ

@@ -1,10 +1,10 @@
 -- What is shown depends only on the slot and the words reached from it.
-use Rattle.std.proofs.Common.{◌≡◌, ℕ, zero, suc, ◌+◌, ◌-◌, ◌*◌, ◌/◌, ◌%◌, ◌^◌, ◌<◌, ◌≤◌, Bool, true, false, cond, ◌&&◌, ◌≢◌, ◌⊎◌, sym, refl, ap, ◌∙◌, subst, ap₂, inl, inr, ⊎_elim, arith}
-use Rattle.wire.specs.Pointers.{high_half, far_segment, far_word, pointer_target, offset_field}
-use Rattle.tree.specs.Value.{Element, Shape, structure, plain, composite, Value, null, object, rows, pointers, places, size, slot, head, number}
-use Rattle.tree.specs.Shows.{Memory, Way, direct, single, double, way, Landing, landing, land, Road, Paved, Describes, spare, span, Body, Shows, within, total, totals, reach}
-use Rattle.tree.proofs.Count.{within_le, within_in, within_from, within_cases, within_none, totals_ext, totals_term, totals_pos}
-use Rattle.tree.proofs.Shapes.{slot_in, slot_apart, number_local}
+use Rattle.std.proofs.Common.{◌≡◌, ℕ, ◌+◌, ◌<◌, ◌≤◌, ◌≢◌, sym, refl, ◌∙◌, arith}
+use Rattle.wire.specs.Pointers.{high_half, far_segment, far_word}
+use Rattle.tree.specs.Value.{Shape, structure, plain, composite, Value, null, object, rows, pointers, size, slot, head}
+use Rattle.tree.specs.Shows.{Memory, Way, direct, single, double, way, Landing, landing, land, Road, Paved, Describes, spare, span, Body, Shows, within, reach}
+use Rattle.tree.proofs.Count.{within_in, totals_ext, totals_term}
+use Rattle.tree.proofs.Shapes.{slot_in, number_local}
 
 -- two memories agree on the pads of a landing
 abbrev pub PadsSame : Memory → Memory → Landing → Type 0

@@ -1,11 +1,10 @@
 -- Going through pairs in order.
-use Rattle.std.proofs.Common.{◌≡◌, ℕ, zero, suc, ◌+◌, ◌<◌, ◌≤◌, Bool, true, false, cond, ◌&&◌, ◌||◌, eqb, ltb, ◌≢◌, ◌⊎◌, sym, refl, ap, ◌∙◌, subst, ap₂, inl, inr, ⊎_elim, arith}
-use mathlib.Core.Path.{fun_ext}
+use Rattle.std.proofs.Common.{◌≡◌, ℕ, ◌+◌, ◌<◌, ◌≤◌, true, false, cond, ◌⊎◌, sym, refl, ap, ◌∙◌, inl, inr, ⊎_elim, arith}
 use Rattle.std.proofs.lemmas.Bool.{cases_lt, cases_eq, eq-eqb, ne_eqb, lt-ltb, le-ltb}
 use Rattle.tree.specs.Value.{change}
-use Rattle.tree.specs.Shows.{span, total, totals}
+use Rattle.tree.specs.Shows.{totals}
 use Rattle.tree.specs.Loops.{before, pick}
-use Rattle.tree.proofs.Count.{total_ext, totals_ext, totals_change}
+use Rattle.tree.proofs.Count.{totals_ext}
 use Rattle.tree.proofs.Context.{change_here, change_else, totals_changed}
 
 pub before_row : (i j a b : ℕ) → a < i → before i j a b ≡ true

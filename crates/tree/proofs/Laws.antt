@@ -1,7 +1,7 @@
 -- All laws together.
-use Rattle.std.proofs.Common.{◌≡◌, ℕ, ◌+◌, ◌<◌, ◌≤◌, refl, arith}
-use Rattle.tree.specs.Value.{Value, null, object}
-use Rattle.tree.specs.Shows.{span, Memory, Sound, within}
+use Rattle.std.proofs.Common.{◌≡◌, ℕ, ◌<◌, refl, arith}
+use Rattle.tree.specs.Value.{null, object}
+use Rattle.tree.specs.Shows.{Memory, Sound}
 use Rattle.tree.specs.Laws.{Laws}
 use Rattle.tree.specs.Zeroing.{ZeroingWalks}
 use Rattle.tree.proofs.Count.{within_le}

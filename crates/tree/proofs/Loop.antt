@@ -1,10 +1,8 @@
 -- Moving an object's children in rising order: the steps of the loop.
-use Rattle.std.proofs.Common.{◌≡◌, ℕ, zero, suc, ◌+◌, ◌<◌, ◌≤◌, Bool, true, false, ◌≢◌, ◌⊎◌, List, [], ◌∷◌, sym, refl, ap, ◌∙◌, subst, ap₂, inl, inr, ⊎_elim, arith}
-use mathlib.Core.Path.{fun_ext}
-use Rattle.std.proofs.lemmas.Bool.{cases_lt, cases_eq}
-use Rattle.tree.specs.Value.{Shape, Value, null, object, rows, pointers, size, slot, Step, change}
-use Rattle.tree.specs.Shows.{span, Memory, Landing, land, Shows, within, totals, reach, walk}
-use Rattle.tree.specs.Edits.{Laid, Transferred, fixed, taken, slot_at, outer}
+use Rattle.std.proofs.Common.{◌≡◌, ℕ, ◌+◌, ◌<◌, ◌≤◌, true, false, ◌⊎◌, List, sym, ap, ◌∙◌, subst, ⊎_elim, arith}
+use Rattle.tree.specs.Value.{Shape, Value, rows, pointers, slot, Step, change}
+use Rattle.tree.specs.Shows.{span, Memory, Landing, land, within, walk}
+use Rattle.tree.specs.Edits.{Laid, Transferred, fixed, slot_at}
 use Rattle.tree.specs.Loops.{before, pick}
 use Rattle.tree.proofs.Count.{within_in}
 use Rattle.tree.proofs.Shapes.{slot_in, slot_apart}

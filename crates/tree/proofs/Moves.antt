@@ -1,11 +1,10 @@
 -- Children that move one after another.
-use Rattle.std.proofs.Common.{◌≡◌, ℕ, zero, suc, ◌+◌, ◌-◌, ◌*◌, ◌/◌, ◌%◌, ◌^◌, ◌<◌, ◌≤◌, ◌≢◌, ◌⊎◌, List, [], ◌∷◌, sym, refl, ap, ◌∙◌, subst, ap₂, inl, inr, ⊎_elim, arith}
-use mathlib.Core.Path.{fun_ext}
+use Rattle.std.proofs.Common.{◌≡◌, ℕ, ◌+◌, ◌<◌, ◌≤◌, ◌∙◌, subst, ap₂, ⊎_elim, arith}
 use Rattle.std.proofs.lemmas.Bool.{cases_lt, cases_eq}
-use Rattle.tree.specs.Value.{Shape, structure, plain, composite, Value, null, object, rows, pointers, places, size, slot, head, number, Step, Goes, value_at, put, change}
-use Rattle.tree.specs.Shows.{span, Memory, Landing, land, Paved, Describes, Body, Shows, within, total, totals, reach, walk, rest, Sound}
+use Rattle.tree.specs.Value.{Value, change}
+use Rattle.tree.specs.Shows.{Memory, within, totals, reach}
 use Rattle.tree.specs.Edits.{Laid, Transferred}
-use Rattle.tree.proofs.Count.{within_le, within_in, within_from, within_cases, within_none, totals_ext, totals_term, totals_change, totals_pos}
+use Rattle.tree.proofs.Count.{within_le, within_cases, totals_term, totals_change, totals_pos}
 use Rattle.tree.proofs.Frame.{Agree, frame, frame_reach}
 use Rattle.tree.proofs.Context.{change_here, change_else}
 use Rattle.tree.proofs.Replace.{reach_inside}

@@ -1,16 +1,15 @@
 -- Writing a number changes that number and no other.
-use Rattle.std.proofs.Common.{◌≡◌, ℕ, zero, suc, ◌+◌, ◌-◌, ◌*◌, ◌/◌, ◌%◌, ◌^◌, ◌<◌, ◌≤◌, ◌≢◌, ◌⊎◌, List, [], ◌∷◌, sym, refl, ap, ◌∙◌, subst, ap₂, inl, inr, ⊎_elim, arith}
-use mathlib.Core.Path.{fun_ext}
-use Rattle.std.proofs.lemmas.Bool.{cases_lt, cases_eq}
+use Rattle.std.proofs.Common.{◌≡◌, ℕ, ◌+◌, ◌-◌, ◌*◌, ◌^◌, ◌<◌, ◌≤◌, ◌≢◌, List, sym, refl, ap, ◌∙◌, ⊎_elim, arith}
+use Rattle.std.proofs.lemmas.Bool.{cases_eq}
 use Rattle.wire.specs.Sizes.{element_bits}
 use Rattle.wire.specs.Elements.{element_word, element_in, element_put}
 use Rattle.wire.proofs.Splices.{element_back, element_others}
 use Rattle.tree.specs.Value.{Element, void, bit, byte, two_bytes, four_bytes, eight_bytes, pointer, Shape, structure, plain, composite, Value, object, rows, pointers, places, size, slot, head, number, place_word, element_code, element_pointers, change, Step, Goes, value_at, put}
-use Rattle.tree.specs.Shows.{span, Memory, Landing, land, Body, Shows, within, reach, walk, Describes, Sound}
-use Rattle.tree.specs.Edits.{Renumbered, words}
+use Rattle.tree.specs.Shows.{span, Memory, Landing, land, Shows, walk, Describes, Sound}
+use Rattle.tree.specs.Edits.{Renumbered}
 use Rattle.tree.specs.Numbers.{place_put, place_bits, FitsPlace}
 use Rattle.tree.proofs.Count.{within_in}
-use Rattle.tree.proofs.Shapes.{row_fits, row_apart, slot_in}
+use Rattle.tree.proofs.Shapes.{row_fits, row_apart}
 use Rattle.tree.proofs.Frame.{describes_headed}
 use Rattle.tree.proofs.Context.{change_here, change_else, reached}
 use Rattle.tree.proofs.Edits.{renumber}

@@ -1,9 +1,8 @@
 -- A path is walked step by step.
-use Rattle.std.proofs.Common.{◌≡◌, ℕ, zero, suc, ◌+◌, ◌<◌, ◌≤◌, ◌≢◌, ◌⊎◌, List, [], ◌∷◌, ◌++◌, sym, refl, ap, ◌∙◌, subst, ap₂, inl, inr, ⊎_elim, arith}
-use mathlib.Core.Path.{fun_ext}
-use Rattle.tree.specs.Value.{Shape, Value, null, object, rows, pointers, places, slot, number, Step, Meets, Goes, value_at, put}
-use Rattle.tree.specs.Shows.{span, Memory, Landing, land, Paved, Body, Shows, walk}
-use Rattle.tree.specs.Decode.{shape_of, shape_at}
+use Rattle.std.proofs.Common.{◌≡◌, ℕ, ◌+◌, ◌≢◌, List, [], ◌∷◌, ◌++◌, sym, refl, ap}
+use Rattle.tree.specs.Value.{Value, null, object, slot, Step, Goes, value_at}
+use Rattle.tree.specs.Shows.{Memory, land, Shows, walk}
+use Rattle.tree.specs.Decode.{shape_at}
 use Rattle.tree.proofs.Roads.{paved_live}
 use Rattle.tree.proofs.Decoding.{describes_shape}
 

@@ -1,5 +1,5 @@
 -- Decoding a made pointer gives its parts back.
-use Rattle.std.proofs.Common.{◌≡◌, ℕ, zero, suc, ◌+◌, ◌-◌, ◌*◌, ◌/◌, ◌%◌, ◌^◌, ◌<◌, ◌≤◌, Bool, true, false, cond, ◌≢◌, ◌⊎◌, sym, refl, ap, ◌∙◌, inl, inr, ⊎_elim, arith}
+use Rattle.std.proofs.Common.{◌≡◌, ℕ, ◌+◌, ◌-◌, ◌*◌, ◌/◌, ◌%◌, ◌^◌, ◌<◌, ◌≤◌, refl, ap, ◌∙◌, ⊎_elim, arith}
 use Rattle.std.proofs.lemmas.Bool.{cases_lt}
 use Rattle.wire.specs.Pointers.{low_half, high_half, pointer_kind, offset_field, aimed_at, pointer_target, data_words, pointer_words, list_code, list_count, far_segment, far_word, far_mark, offset_between, struct_pointer, list_pointer, struct_list_tag, single_far, double_far, empty_struct}
 

@@ -1,14 +1,13 @@
 -- An object is rebuilt in a larger shape: open it, move its children one by one (`Moves.transfer`), close it.
-use Rattle.std.proofs.Common.{◌≡◌, ℕ, zero, suc, ◌+◌, ◌-◌, ◌*◌, ◌/◌, ◌%◌, ◌^◌, ◌<◌, ◌≤◌, ◌≢◌, ◌⊎◌, List, [], ◌∷◌, sym, refl, ap, ◌∙◌, subst, ap₂, inl, inr, ⊎_elim, arith}
-use mathlib.Core.Path.{fun_ext}
-use Rattle.std.proofs.lemmas.Bool.{cases_lt, cases_eq}
-use Rattle.tree.specs.Value.{Shape, structure, plain, composite, Value, null, object, rows, pointers, places, size, slot, head, number, Step, Goes, value_at, put, change}
-use Rattle.tree.specs.Shows.{span, Memory, Landing, land, Paved, Describes, Body, Shows, within, total, totals, reach, walk, rest, Sound}
+use Rattle.std.proofs.Common.{◌≡◌, ℕ, zero, suc, ◌+◌, ◌<◌, ◌≤◌, ◌⊎◌, List, ap, ◌∙◌, subst, ap₂, inl, inr, ⊎_elim, arith}
+use Rattle.std.proofs.lemmas.Bool.{cases_lt}
+use Rattle.tree.specs.Value.{Shape, Value, null, object, rows, pointers, slot, Step, Goes, value_at, put}
+use Rattle.tree.specs.Shows.{Memory, Landing, land, Shows, total, totals, reach, walk, Sound}
 use Rattle.tree.specs.Edits.{outer, Laid, taken, fixed, slot_at, Opened, Closed}
-use Rattle.tree.proofs.Count.{within_le, within_in, within_from, within_cases, within_none, total_ext, total_zero, totals_ext, totals_zero, totals_term, totals_change, totals_pos}
+use Rattle.tree.proofs.Count.{total_ext, total_zero, totals_ext, totals_term}
 use Rattle.tree.proofs.Frame.{Agree, frame, frame_reach, slot_within}
-use Rattle.tree.proofs.Context.{kids, split, reached, slot_counted}
-use Rattle.tree.proofs.Replace.{Around, once_parts, slot_outer, outer_inside, reach_inside, replace}
+use Rattle.tree.proofs.Context.{kids, split, reached}
+use Rattle.tree.proofs.Replace.{once_parts, slot_outer, outer_inside, reach_inside, replace}
 
 -- ## Sums over a larger range
 

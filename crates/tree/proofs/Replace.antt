@@ -1,13 +1,11 @@
 -- The value at a path's end is replaced: the whole stays well laid out.
-use Rattle.std.proofs.Common.{◌≡◌, ℕ, zero, suc, ◌+◌, ◌-◌, ◌*◌, ◌/◌, ◌%◌, ◌^◌, ◌<◌, ◌≤◌, ◌≢◌, ◌⊎◌, List, [], ◌∷◌, sym, refl, ap, ◌∙◌, subst, ap₂, inl, inr, ⊎_elim, arith}
-use mathlib.Core.Path.{fun_ext}
-use Rattle.std.proofs.lemmas.Bool.{cases_lt, cases_eq}
-use Rattle.tree.specs.Value.{Shape, Value, null, object, rows, pointers, places, size, slot, Step, Goes, value_at, put, change}
-use Rattle.tree.specs.Shows.{span, Memory, Landing, land, Paved, Body, Shows, within, totals, reach, walk, rest, Sound}
-use Rattle.tree.specs.Edits.{words, outer}
-use Rattle.tree.proofs.Count.{within_le, within_in, within_from, within_cases, totals_pos, totals_term}
-use Rattle.tree.proofs.Frame.{Agree, frame, frame_reach}
-use Rattle.tree.proofs.Context.{split, reached, slot_counted, Once, kids, step_reach, step_shows, change_here, change_else, slot_below}
+use Rattle.std.proofs.Common.{◌≡◌, ℕ, ◌+◌, ◌<◌, ◌≤◌, List, [], ◌∷◌, ap₂, ⊎_elim, arith}
+use Rattle.std.proofs.lemmas.Bool.{cases_lt}
+use Rattle.tree.specs.Value.{Shape, Value, null, object, rows, pointers, slot, Step, Goes, value_at, put, change}
+use Rattle.tree.specs.Shows.{span, Memory, land, Shows, within, reach, walk, rest, Sound}
+use Rattle.tree.specs.Edits.{outer}
+use Rattle.tree.proofs.Count.{within_from, within_cases, totals_pos, totals_term}
+use Rattle.tree.proofs.Context.{split, slot_counted, Once, kids, step_reach, step_shows, change_here, slot_below}
 
 -- ## The value put into its context
 

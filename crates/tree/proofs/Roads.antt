@@ -1,10 +1,10 @@
 -- Where made pointers lead.
-use Rattle.std.proofs.Common.{◌≡◌, ℕ, zero, suc, ◌+◌, ◌-◌, ◌*◌, ◌/◌, ◌%◌, ◌^◌, ◌<◌, ◌≤◌, Bool, true, false, cond, ◌≢◌, ◌⊎◌, sym, refl, ap, ◌∙◌, subst, ap₂, inl, inr, ⊎_elim, arith}
-use Rattle.std.proofs.lemmas.Bool.{cases_lt, cases_eq, eq-eqb, ne_eqb}
-use Rattle.wire.specs.Pointers.{pointer_kind, offset_field, pointer_target, data_words, pointer_words, list_code, list_count, far_segment, far_word, far_mark, struct_pointer, list_pointer, struct_list_tag, single_far, double_far, empty_struct}
-use Rattle.tree.specs.Value.{Element, void, bit, byte, two_bytes, four_bytes, eight_bytes, pointer, Shape, structure, plain, composite, element_code, size}
-use Rattle.tree.specs.Shows.{span, Memory, Way, direct, single, double, far_way, way, Landing, landing, land, Road, Paved, Describes}
-use Rattle.tree.proofs.PointerParts.{single_parts, double_parts, struct_kind, list_kind, struct_target, list_target}
+use Rattle.std.proofs.Common.{◌≡◌, ℕ, ◌+◌, ◌*◌, ◌^◌, ◌<◌, ◌≢◌, refl, ◌∙◌, arith}
+use Rattle.std.proofs.lemmas.Bool.{eq-eqb, ne_eqb}
+use Rattle.wire.specs.Pointers.{pointer_kind, offset_field, pointer_target, far_mark, struct_pointer, list_pointer, struct_list_tag, single_far, double_far, empty_struct}
+use Rattle.tree.specs.Value.{Element, void, bit, byte, two_bytes, four_bytes, eight_bytes, pointer, structure, plain, composite, element_code}
+use Rattle.tree.specs.Shows.{Memory, Way, direct, single, double, way, landing, land, Road, Paved, Describes}
+use Rattle.tree.proofs.PointerParts.{single_parts, double_parts}
 
 pub way_direct : (x : ℕ) → pointer_kind x ≢ 2 → way x ≡ direct
 way_direct x h = rw (ne_eqb (pointer_kind x) 2 h)

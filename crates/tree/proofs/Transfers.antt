@@ -1,18 +1,16 @@
 -- The ways in which a child gets to a new slot.
-use Rattle.std.proofs.Common.{◌≡◌, ℕ, zero, suc, ◌+◌, ◌-◌, ◌*◌, ◌/◌, ◌%◌, ◌^◌, ◌<◌, ◌≤◌, ◌≢◌, ◌⊎◌, sym, refl, ap, ◌∙◌, subst, ap₂, inl, inr, ⊎_elim, arith}
-use mathlib.Core.Path.{fun_ext}
-use Rattle.std.proofs.lemmas.Bool.{cases_lt, cases_eq}
-use Rattle.wire.specs.Pointers.{low_half, high_half, pointer_kind, offset_field, pointer_target, data_words, pointer_words, list_code, list_count, far_segment, far_word, far_mark, offset_between, single_far, double_far, empty_struct, re_aimed, unaimed}
-use Rattle.tree.specs.Value.{Shape, structure, plain, composite, Value, null, object, rows, pointers, places, size, slot, head, number}
-use Rattle.tree.specs.Shows.{spare, span, Memory, Way, direct, single, double, way, Landing, landing, land, Road, Paved, Describes, Body, Shows, within, total, totals, reach}
-use Rattle.tree.specs.Edits.{pads, words, Transferred, Steady}
-use Rattle.tree.proofs.Count.{within_le, within_in, within_from, within_cases, within_none, totals_ext, totals_term}
+use Rattle.std.proofs.Common.{◌≡◌, ℕ, ◌+◌, ◌^◌, ◌<◌, ◌≤◌, ◌≢◌, sym, refl, ap, ◌∙◌, subst, ap₂, ⊎_elim, arith}
+use Rattle.wire.specs.Pointers.{high_half, pointer_kind, pointer_target, single_far, double_far, empty_struct, re_aimed, unaimed}
+use Rattle.tree.specs.Value.{Shape, structure, plain, composite, Value, null, object, rows, pointers, size, slot}
+use Rattle.tree.specs.Shows.{spare, span, Memory, Way, direct, single, double, way, landing, land, Road, Paved, Describes, within, reach}
+use Rattle.tree.specs.Edits.{pads, Transferred, Steady}
+use Rattle.tree.proofs.Count.{within_in, within_cases, within_none, totals_term}
 use Rattle.tree.proofs.Shapes.{slot_in}
 use Rattle.tree.proofs.PointerParts.{empty_parts}
-use Rattle.tree.proofs.Frame.{Agree, agree_body, agree_kid, PadsSame, landing_same, road_same, spare_empty, spare_alike}
+use Rattle.tree.proofs.Frame.{Agree, PadsSame, landing_same, road_same, spare_empty, spare_alike}
 use Rattle.tree.proofs.Context.{kids}
 use Rattle.tree.proofs.Replace.{reach_inside}
-use Rattle.tree.proofs.Roads.{land_by, paved_by, way_direct, land_direct, land_single, land_double, paved_direct, paved_single, paved_double}
+use Rattle.tree.proofs.Roads.{land_direct, land_single, land_double, paved_direct, paved_single, paved_double}
 use Rattle.tree.proofs.Carry.{Moved, moved_shows, moved_reach, describes_alike, described_kind, repoint_parts, repoint_target, flat_parts}
 
 -- null: the zero word

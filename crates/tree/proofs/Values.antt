@@ -1,9 +1,9 @@
 -- Putting a value at a path's end.
-use Rattle.std.proofs.Common.{◌≡◌, ℕ, zero, suc, ◌+◌, ◌<◌, ◌≤◌, ◌≢◌, ◌⊎◌, List, [], ◌∷◌, sym, refl, ap, ◌∙◌, subst, ap₂, inl, inr, ⊎_elim, arith}
+use Rattle.std.proofs.Common.{◌≡◌, ℕ, ◌+◌, ◌⊎◌, List, [], ◌∷◌, sym, refl, ap, ◌∙◌, inl, inr, arith}
 use mathlib.Core.Path.{fun_ext}
-use Rattle.std.proofs.lemmas.Bool.{cases_lt, cases_eq}
-use Rattle.tree.specs.Value.{Shape, Value, null, object, rows, pointers, slot, Step, Goes, value_at, put, change}
-use Rattle.tree.specs.Shows.{span, Memory, land, within, reach, walk, rest, Shows}
+use Rattle.std.proofs.lemmas.Bool.{cases_eq}
+use Rattle.tree.specs.Value.{Value, null, object, slot, Step, Goes, value_at, put, change}
+use Rattle.tree.specs.Shows.{Memory, land, walk, rest}
 use Rattle.tree.proofs.Context.{change_here, change_else, split, slot_counted, Once, step_land}
 use Rattle.tree.proofs.Replace.{Around, once_kid, around_kid}
 

@@ -1,13 +1,12 @@
 -- Zeroing a value: the steps of a loop with a stack.
-use Rattle.std.proofs.Common.{◌≡◌, ℕ, zero, suc, ◌+◌, ◌<◌, ◌≤◌, ◌≢◌, ◌⊎◌, List, [], ◌∷◌, sym, refl, ap, ◌∙◌, subst, ap₂, inl, inr, ⊎_elim, arith}
-use mathlib.Core.Path.{fun_ext}
-use Rattle.std.proofs.lemmas.Bool.{cases_lt, cases_eq}
-use Rattle.tree.specs.Value.{Shape, Value, null, object, rows, pointers, size, slot}
-use Rattle.tree.specs.Shows.{span, Memory, Landing, land, Shows, within, totals, reach}
+use Rattle.std.proofs.Common.{◌≡◌, ℕ, ◌+◌, ◌<◌, ◌≤◌, List, [], ◌∷◌, refl, ap, ◌∙◌, ⊎_elim, arith}
+use Rattle.std.proofs.lemmas.Bool.{cases_lt}
+use Rattle.tree.specs.Value.{Shape, Value, null, object, rows, pointers, slot}
+use Rattle.tree.specs.Shows.{Memory, land, Shows, within, reach}
 use Rattle.tree.specs.Edits.{Cleared, pads, words}
 use Rattle.tree.specs.Loops.{pick, left_of, Pending, left_in, Wiping}
 use Rattle.tree.proofs.Count.{within_in, totals_ext, totals_zero}
-use Rattle.tree.proofs.Frame.{Agree, frame, slot_within}
+use Rattle.tree.proofs.Frame.{frame, slot_within}
 use Rattle.tree.proofs.Context.{kids}
 use Rattle.tree.proofs.Index.{left_next, left_row, pick_start, pick_end}
 

@@ -1,5 +1,5 @@
 -- The value that a memory shows, computed from its words.
-use Rattle.std.specs.Prelude.{◌≡◌, ℕ, zero, suc, ◌+◌, ◌<◌, ◌≤◌, Bool, true, false, cond, ◌&&◌, ◌==◌, nat_lt}
+use Rattle.std.specs.Prelude.{ℕ, zero, suc, ◌+◌, cond, ◌&&◌, ◌==◌, nat_lt}
 use Rattle.wire.specs.Pointers.{pointer_kind, offset_field, data_words, pointer_words, list_code, list_count}
 use Rattle.tree.specs.Value.{Element, void, bit, byte, two_bytes, four_bytes, eight_bytes, pointer, Shape, structure, plain, composite, Value, null, object, rows, pointers, places, slot, number}
 use Rattle.tree.specs.Shows.{Memory, Landing, land}

@@ -1,7 +1,7 @@
 -- What an edit does to the words, and what is kept while an object's children move.
-use Rattle.std.specs.Prelude.{◌≡◌, ℕ, zero, suc, ◌+◌, ◌^◌, ◌<◌, ◌≤◌, ◌≢◌, ◌⊎◌, List, [], ◌∷◌}
+use Rattle.std.specs.Prelude.{◌≡◌, ℕ, ◌+◌, ◌^◌, ◌<◌, ◌≤◌, ◌≢◌, ◌⊎◌, List}
 use Rattle.wire.specs.Pointers.{pointer_kind, pointer_target, single_far}
-use Rattle.tree.specs.Value.{Shape, Value, null, object, rows, pointers, size, slot, head, Step}
+use Rattle.tree.specs.Value.{Shape, Value, rows, pointers, slot, head, Step}
 use Rattle.tree.specs.Shows.{Memory, Landing, land, span, Paved, Describes, Body, Shows, within, totals, reach, walk, rest}
 
 -- the pads to which the slot (g, w) leads

@@ -1,7 +1,7 @@
 -- The extents that a slot reaches, as a list, and what it means that they do not overlap.
-use Rattle.std.specs.Prelude.{◌≡◌, ℕ, zero, suc, ◌+◌, ◌<◌, ◌≤◌, ◌⊎◌, List, [], ◌∷◌, ◌++◌}
-use Rattle.tree.specs.Value.{Shape, Value, null, object, rows, pointers, size, slot}
-use Rattle.tree.specs.Shows.{Memory, Landing, land, span, Shows}
+use Rattle.std.specs.Prelude.{◌≡◌, ℕ, zero, suc, ◌+◌, ◌<◌, ◌≤◌, List, [], ◌∷◌, ◌++◌}
+use Rattle.tree.specs.Value.{Value, null, object, rows, pointers, slot}
+use Rattle.tree.specs.Shows.{Memory, land, span, Shows}
 
 pub record Extent : Type 0 where
   pub seg : ℕ

@@ -1,10 +1,9 @@
 -- What is proved of edits on words. Each law is said of any path: `walk` finds the slot at its end, and `value_at` the value there.
-use Rattle.std.specs.Prelude.{◌≡◌, ℕ, ◌+◌, ◌^◌, ◌<◌, ◌≤◌, ◌≢◌, List, [], ◌∷◌}
+use Rattle.std.specs.Prelude.{◌≡◌, ℕ, ◌+◌, ◌^◌, ◌<◌, ◌≤◌, ◌≢◌, List}
 use Rattle.wire.specs.Pointers.{pointer_kind, high_half, pointer_target, re_aimed, unaimed, single_far, double_far, empty_struct}
 use Rattle.tree.specs.Numbers.{place_put, place_bits, FitsPlace}
-use Rattle.tree.specs.Loops.{Wiping}
 use Rattle.tree.specs.Value.{Shape, Value, null, object, rows, pointers, places, place_word, Step, Goes, value_at, put, change, blank}
-use Rattle.tree.specs.Shows.{Memory, Landing, land, Way, direct, way, Shows, within, reach, walk}
+use Rattle.tree.specs.Shows.{Memory, Landing, land, direct, way, Shows, walk}
 use Rattle.tree.specs.Decode.{decode, Deep}
 use Rattle.tree.specs.Extents.{WellLaid}
 use Rattle.tree.specs.Edits.{Cleared, Beside, Behind, Renumbered, Laid, Transferred, Steady, fixed, slot_at, Opened, Closed}

@@ -1,5 +1,5 @@
 -- What is kept while a loop goes through the pointers of an object, row by row.
-use Rattle.std.specs.Prelude.{◌≡◌, ℕ, ◌+◌, ◌<◌, ◌≤◌, Bool, cond, ◌&&◌, ◌||◌, List, [], ◌∷◌, ◌==◌, nat_lt}
+use Rattle.std.specs.Prelude.{◌≡◌, ℕ, ◌+◌, ◌≤◌, Bool, cond, ◌&&◌, ◌||◌, List, [], ◌∷◌, ◌==◌, nat_lt}
 use Rattle.tree.specs.Value.{Shape, Value, rows, pointers, slot}
 use Rattle.tree.specs.Shows.{Memory, land, totals, reach}
 use Rattle.tree.specs.Edits.{pads, words}

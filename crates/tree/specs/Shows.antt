@@ -1,7 +1,7 @@
 -- When a slot of memory shows a value, and which words that takes.
-use Rattle.std.specs.Prelude.{◌≡◌, ℕ, zero, suc, ◌+◌, ◌-◌, ◌*◌, ◌/◌, ◌%◌, ◌^◌, ◌<◌, ◌≤◌, Bool, true, false, cond, ◌&&◌, ◌≢◌, ◌⊎◌, List, [], ◌∷◌, ◌==◌, nat_le, nat_lt}
-use Rattle.wire.specs.Pointers.{low_half, high_half, pointer_kind, offset_field, pointer_target, data_words, pointer_words, list_code, list_count, far_segment, far_word, far_mark}
-use Rattle.tree.specs.Value.{Element, Shape, structure, plain, composite, Value, null, object, rows, pointers, places, size, slot, number, element_code, Step, change}
+use Rattle.std.specs.Prelude.{◌≡◌, ℕ, zero, suc, ◌+◌, ◌-◌, ◌*◌, ◌<◌, ◌≤◌, cond, ◌&&◌, ◌≢◌, ◌⊎◌, List, [], ◌∷◌, ◌==◌, nat_le, nat_lt}
+use Rattle.wire.specs.Pointers.{pointer_kind, offset_field, pointer_target, data_words, pointer_words, list_code, list_count, far_segment, far_word, far_mark}
+use Rattle.tree.specs.Value.{Shape, structure, plain, composite, Value, null, object, rows, pointers, places, size, slot, number, element_code, Step, change}
 
 -- the word w of segment g, 0 where there is none
 abbrev pub Memory : Type 0

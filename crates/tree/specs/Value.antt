@@ -1,5 +1,5 @@
 -- The values that a message's words show: null, a struct, a plain list or a struct list, with far pointers gone.
-use Rattle.std.specs.Prelude.{◌≡◌, ℕ, zero, suc, ◌+◌, ◌-◌, ◌*◌, ◌<◌, ◌≤◌, Bool, true, false, cond, ◌&&◌, List, [], ◌∷◌, ◌==◌}
+use Rattle.std.specs.Prelude.{◌≡◌, ℕ, ◌+◌, ◌-◌, ◌*◌, ◌<◌, cond, ◌&&◌, List, [], ◌∷◌, ◌==◌}
 use Rattle.wire.specs.Sizes.{list_words}
 use Rattle.wire.specs.Elements.{element_word, element_in}
 

@@ -1,5 +1,5 @@
 -- Memory as lists of words.
-use Rattle.std.specs.Prelude.{ℕ, List, [], ◌∷◌, slice_index, slice_index_or, slice_set}
+use Rattle.std.specs.Prelude.{ℕ, List, [], slice_index, slice_index_or, slice_set}
 use Rattle.tree.specs.Shows.{Memory}
 
 unfoldable pub word : List (List ℕ) → Memory

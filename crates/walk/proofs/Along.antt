@@ -1,10 +1,10 @@
 -- Steps along a path: one after another, and on words that show a tree.
-use Rattle.std.proofs.Common.{◌≡◌, ℕ, zero, suc, ◌+◌, ◌^◌, ◌<◌, ◌≤◌, Bool, true, false, cond, ◌&&◌, eqb, ltb, ◌⊎◌, List, [], ◌∷◌, length, get_or, drop, Some, None, Ok, Err, Option, Result, sym, refl, ap, ◌∙◌, inl, inr, ⊎_elim, zero-add, add-one, arith, drop-cons}
+use Rattle.std.proofs.Common.{◌≡◌, ℕ, suc, ◌+◌, ◌^◌, ◌<◌, ◌≤◌, Bool, true, false, cond, ◌&&◌, eqb, ltb, List, [], ◌∷◌, length, get_or, drop, Some, None, Ok, Option, Result, sym, refl, ap, ◌∙◌, ⊎_elim, zero-add, add-one, arith, drop-cons}
 use Rattle.std.proofs.lemmas.List.{drop_all}
-use Rattle.std.proofs.lemmas.Bool.{cond-true, cond-false, eq-eqb, ne_eqb, eqb-true, lt-ltb, le-ltb, ltb-true, and_parts, cases_Bool, cases_lt}
+use Rattle.std.proofs.lemmas.Bool.{cond-true, cond-false, eq-eqb, ne_eqb, lt-ltb, le-ltb, ltb-true, and_parts, cases_Bool, cases_lt}
 use Rattle.tree.specs.Value as value
 use Rattle.tree.specs.Value.{Shape, Value, null, object, rows, pointers, slot, size}
-use Rattle.tree.specs.Shows.{Memory, Landing, land, span, Shows, walk}
+use Rattle.tree.specs.Shows.{Memory, Landing, land, Shows, walk}
 use Rattle.tree.specs.Decode.{shape_at}
 use Rattle.tree.proofs.Roads.{paved_live}
 use Rattle.tree.proofs.Shapes.{slot_in}

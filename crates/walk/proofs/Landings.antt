@@ -1,8 +1,8 @@
 -- Where a slot leads, by the kind of its word.
-use Rattle.std.proofs.Common.{◌≡◌, ℕ, zero, suc, ◌+◌, ◌/◌, ◌%◌, ◌<◌, Bool, true, false, cond, not, eqb, sym, refl, ap, ◌∙◌, arith}
+use Rattle.std.proofs.Common.{◌≡◌, ℕ, zero, suc, ◌+◌, ◌<◌, true, false, eqb, sym, refl, ap, ◌∙◌, arith}
 use Rattle.std.proofs.lemmas.Bool.{cond-true, cond-false, eqb-true, eqb-false}
 use Rattle.wire.specs.Pointers.{pointer_kind, pointer_target, far_segment, far_word, far_mark}
-use Rattle.tree.specs.Shows.{Memory, Way, direct, single, double, far_way, way, Landing, landing, land}
+use Rattle.tree.specs.Shows.{Memory, Way, direct, single, double, far_way, way, landing, land}
 
 pub land_by : (H : Memory) (g w : ℕ) (k : Way) → way (H g w) ≡ k → land H g w ≡ landing H g w (H g w) k
 unfolding land

@@ -1,5 +1,5 @@
 -- The shape that a pointer says, by its kind and code.
-use Rattle.std.proofs.Common.{◌≡◌, ℕ, zero, suc, ◌<◌, Bool, true, false, cond, eqb, sym, refl, ap, ◌∙◌, arith}
+use Rattle.std.proofs.Common.{◌≡◌, ℕ, cond, eqb, sym, refl, ◌∙◌, arith}
 use Rattle.std.proofs.lemmas.Bool.{cond-true, cond-false, eq-eqb, ne_eqb}
 use Rattle.wire.specs.Pointers.{pointer_kind, offset_field, data_words, pointer_words, list_code, list_count}
 use Rattle.wire.specs.Kinds.{kind_number}

@@ -1,5 +1,4 @@
 -- A landing as the layout's definitions have it.
-use Rattle.std.specs.Prelude.{ℕ}
 use Rattle.tree.specs.Shows as shows
 use Rattle.walk.specs.declared.landing.Landing.{Landing}
 

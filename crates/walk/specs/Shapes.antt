@@ -1,6 +1,4 @@
 -- A shape as the layout's definitions have it.
-use Rattle.std.specs.Prelude.{ℕ}
-use Rattle.wire.specs.declared.sizes.ElementSize.{ElementSize}
 use Rattle.wire.specs.Sizes.{code_of}
 use Rattle.tree.specs.Decode.{element_of_code}
 use Rattle.tree.specs.Value as value

@@ -1,5 +1,5 @@
 -- Where steps lead from slot to slot, on any words whatever.
-use Rattle.std.specs.Prelude.{ℕ, ◌+◌, ◌^◌, Bool, cond, List, [], ◌∷◌, length, Some, None, Ok, Err, Option, Result, ◌==◌, nat_lt}
+use Rattle.std.specs.Prelude.{ℕ, ◌+◌, ◌^◌, cond, List, [], ◌∷◌, length, Some, None, Ok, Err, Option, Result, ◌==◌, nat_lt}
 use Rattle.tree.specs.Value as value
 use Rattle.tree.specs.Value.{Shape, Value, slot}
 use Rattle.tree.specs.Shows.{Memory, Landing, land, walk}

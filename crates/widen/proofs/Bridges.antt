@@ -6,7 +6,7 @@ use Rattle.tree.specs.Value.{change}
 use Rattle.tree.specs.Shows.{Memory}
 use Rattle.table.specs.Segments.{Table, allocated_in}
 use Rattle.table.specs.Placing.{Room, Outcome, got, then, pad}
-use Rattle.table.specs.Laws.{After, Fresh, Padded}
+use Rattle.table.specs.Laws.{Fresh, Padded}
 use Rattle.table.specs.Meaning.{table_of}
 use Rattle.table.specs.declared.SegmentTable.{SegmentTable}
 use Rattle.table.proofs.Allocations.{fresh_pad, after_pad}

@@ -1,6 +1,6 @@
 -- The element's bits are replaced: they are read back, and those of no other element change.
 use Prim.Native.Nat.{ℕ, ◌<◌, ◌^◌}
-use mathlib.Core.Path.{◌≡◌, ap, ◌∙◌, sym}
+use mathlib.Core.Path.{◌≡◌, ap, ◌∙◌}
 use borrow.Author.Rules.{rules}
 use Rattle.wire.specs.Sizes.{element_bits}
 use Rattle.wire.specs.Elements.{element_in, element_put}

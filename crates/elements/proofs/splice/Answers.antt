@@ -1,8 +1,5 @@
 -- The old bits leave the word and the new ones come in their place.
-use Prim.Native.Nat.{ℕ, ◌*◌, ◌%◌, ◌^◌}
-use mathlib.Core.Path.{◌≡◌}
 use native.Mathlib.Omega.{arith}
-use Rattle.wire.specs.Elements.{picked, patched}
 use Rattle.wire.proofs.Splices.{shifted_back, shifted_up, picked_le, patched_lt, swapped}
 use Rattle.elements.proofs.splice.Goals as goal
 

@@ -1,5 +1,5 @@
 -- No segment has the words left, and one is granted.
-use Rattle.std.proofs.Common.{◌≡◌, ℕ, ◌<◌, length, sym, ap, ◌∙◌, inr, arith}
+use Rattle.std.proofs.Common.{◌≡◌, ℕ, length, sym, ap, ◌∙◌, inr, arith}
 use Rattle.table.specs.Meaning.{table_of}
 use Rattle.arena.proofs.Grants.{unfound_same, granted_table}
 use Rattle.arena.proofs.BuilderArena.allocate_anywhere.Goals as goal

@@ -1,5 +1,5 @@
 -- Words and table go back together.
-use Rattle.std.proofs.Common.{◌≡◌, ℕ, List, map, length, sym, ap, ◌∙◌, subst}
+use Rattle.std.proofs.Common.{ℕ, List, map, length, sym, ap, ◌∙◌, subst}
 use Rattle.table.specs.Meaning.{table_of}
 use Rattle.arena.specs.Zeroed.{Rewound}
 use Rattle.arena.proofs.Rewind.{rewound_is, rewound_sizes}

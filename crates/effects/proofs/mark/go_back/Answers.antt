@@ -1,6 +1,6 @@
 -- Words and counts as they were at the mark.
-use Rattle.std.proofs.Common.{◌≡◌, ℕ, get_or, sym, ap, ◌∙◌, subst}
-use Rattle.table.specs.Segments.{Table, allocated_in, capacities}
+use Rattle.std.proofs.Common.{sym, ap, ◌∙◌, subst}
+use Rattle.table.specs.Segments.{Table}
 use Rattle.table.specs.Meaning.{table_of, rolled_back}
 use Rattle.arena.specs.Zeroed.{Rewound}
 use Rattle.effects.proofs.Writing.{within_capacity}

@@ -1,5 +1,5 @@
 -- The root word is there, or is allocated anywhere.
-use Rattle.std.proofs.Common.{◌≡◌, sym, refl, ◌∙◌, arith}
+use Rattle.std.proofs.Common.{sym, refl, ◌∙◌}
 use Rattle.std.proofs.lemmas.Bool.{eq-eqb, ne_eqb}
 use Rattle.effects.specs.States.{meant, state_of}
 use Rattle.effects.proofs.Allocations.{root_part, root_there, at_most}

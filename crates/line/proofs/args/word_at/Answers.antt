@@ -1,5 +1,5 @@
 -- The word that `get` finds.
-use Rattle.std.proofs.Common.{◌≡◌, ◌<◌, length, sym, ap, ◌∙◌}
+use Rattle.std.proofs.Common.{length, sym, ap, ◌∙◌}
 use borrow.Author.Tests.{true-ltb}
 use Rattle.line.proofs.Places.{within}
 use Rattle.line.proofs.args.word_at.Goals as goal

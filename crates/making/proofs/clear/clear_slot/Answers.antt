@@ -1,7 +1,5 @@
 -- What the slot reaches, then the slot.
-use Rattle.std.proofs.Common.{refl}
 use Rattle.effects.proofs.Writing.{rewritten_then, rewritten_sized}
-use Rattle.effects.specs.States.{Rewritten}
 use Rattle.making.proofs.Clearing.{cleared, zeroed_state}
 use Rattle.making.proofs.clear.clear_slot.Goals as goal
 

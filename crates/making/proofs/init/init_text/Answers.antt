@@ -1,5 +1,4 @@
 -- Room is found, the slot is filled, and the bytes are written.
-use Rattle.std.proofs.Common.{◌≡◌, sym, refl, ap, ◌∙◌}
 use Rattle.std.proofs.lemmas.Result.{err_from_is_err_and}
 use Rattle.walk.specs.Shapes.{shape_meant}
 use Rattle.effects.proofs.Writing.{rewritten_then, rewritten_sized}

@@ -1,5 +1,5 @@
 -- One word, or none.
-use Rattle.std.proofs.Common.{◌≡◌, refl}
+use Rattle.std.proofs.Common.{refl}
 use Rattle.effects.proofs.Writing.{rewritten_none}
 use Rattle.judging.specs.Rulings.{home_of}
 use Rattle.making.proofs.Numbers.{unwritten, number_inside, numbered, some_bits, no_bits}

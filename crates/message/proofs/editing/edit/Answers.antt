@@ -1,5 +1,5 @@
 -- Refused by a ruling, by want of space, or made.
-use Rattle.std.proofs.Common.{◌≡◌, sym, refl, ap, ◌∙◌}
+use Rattle.std.proofs.Common.{refl}
 use Rattle.std.proofs.lemmas.Result.{err_from_is_err_and}
 use Rattle.effects.specs.States.{meant, state_of}
 use Rattle.message.specs.Drafts.{call_of}

@@ -1,7 +1,5 @@
 -- Bits and back.
-use Rattle.std.proofs.Common.{◌≡◌, ◌%◌, ◌^◌, ◌<◌, ◌≤◌, sym, ap, ◌∙◌, arith}
-use Rattle.std.proofs.lemmas.Nat.{mod_below}
-use Rattle.wire.specs.Sizes.{element_bits}
+use Rattle.std.proofs.Common.{ap, ◌∙◌, arith}
 use Rattle.message.proofs.Lawful.{bits_back}
 use Rattle.message.proofs.editing.known.Goals as goal
 

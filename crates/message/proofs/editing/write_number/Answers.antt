@@ -1,5 +1,5 @@
 -- Refused by a ruling, by want of space, or written.
-use Rattle.std.proofs.Common.{◌≡◌, sym, refl, ap, ◌∙◌, subst}
+use Rattle.std.proofs.Common.{refl, ap}
 use Rattle.std.proofs.lemmas.Result.{err_from_is_err_and}
 use Rattle.law.specs.Calls.{write}
 use Rattle.judging.specs.Rulings.{home_of}

@@ -1,5 +1,5 @@
 -- What is written is the decimal form of the number, with its sign.
-use Rattle.std.proofs.Common.{◌∙◌, arith, w32}
+use Rattle.std.proofs.Common.{◌∙◌, w32}
 use Rattle.std.proofs.lemmas.Int.{to_z-of_z}
 use Rattle.number.proofs.Again.{signed_again}
 use Rattle.number.proofs.back.reread_i32.Goals as goal

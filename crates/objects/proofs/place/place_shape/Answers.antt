@@ -1,7 +1,6 @@
 -- No words for an empty struct, else those of the placing rule.
-use Rattle.std.proofs.Common.{◌≡◌, ◌+◌, ◌<◌, ◌≤◌, length, sym, refl, ap, ◌∙◌, arith}
+use Rattle.std.proofs.Common.{sym, refl, ◌∙◌, arith}
 use Rattle.std.proofs.lemmas.Result.{err_from_is_err_and}
-use Rattle.table.specs.Segments.{allocated_in}
 use Rattle.table.specs.Meaning.{table_of}
 use Rattle.walk.specs.Shapes.{shape_meant}
 use Rattle.objects.proofs.Placing.{there_is, none_went, none_room, some_went, some_none, some_room}

@@ -1,7 +1,7 @@
 -- One word after another.
-use Rattle.std.proofs.Common.{◌≡◌, ◌+◌, ◌≤◌, sym, ◌∙◌, arith}
+use Rattle.std.proofs.Common.{◌≡◌, ◌+◌, arith}
 use Rattle.effects.proofs.Writing.{within_capacity, rewritten_none, rewritten_then, rewritten_sized}
-use Rattle.objects.proofs.Spelling.{partly_none, spell_step, word_inside, partly_all}
+use Rattle.objects.proofs.Spelling.{partly_none, spell_step, word_inside}
 use Rattle.objects.proofs.text.spell.Goals as goal
 
 pub loop-k-init : goal.loop-k-init

@@ -1,5 +1,5 @@
 -- A leading slash, and then the steps.
-use Rattle.std.proofs.Common.{arith, lit<, true-eqb, false-eqb}
+use Rattle.std.proofs.Common.{lit<, true-eqb}
 use Rattle.std.proofs.lemmas.Str.Pattern.{strip_prefix_char}
 use Rattle.std.proofs.lemmas.Option.{MatchOption-at_some, MatchOption-at_none}
 use Rattle.path.proofs.PathSteps.{no_slash, the_root, to_path}

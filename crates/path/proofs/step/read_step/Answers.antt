@@ -1,5 +1,5 @@
 -- The first byte says which form the step has.
-use Rattle.std.proofs.Common.{◌≡◌, ◌∷◌, inl, inr, lit<}
+use Rattle.std.proofs.Common.{inl, inr, lit<}
 use Rattle.std.proofs.lemmas.Str.Pattern.{strip_prefix_char}
 use Rattle.std.proofs.lemmas.Option.{MatchOption-at_some, MatchOption-at_none}
 use Rattle.path.proofs.StepForms.{exactly_like, pointer_only, element_only, row_text_only, free_text_only}

@@ -1,5 +1,5 @@
 -- The first `p` parts the row from the pointer.
-use Rattle.std.proofs.Common.{◌≡◌, ◌∷◌, ◌++◌, refl, ap, arith, lit<}
+use Rattle.std.proofs.Common.{◌≡◌, ◌∷◌, ◌++◌, lit<}
 use Rattle.std.proofs.lemmas.Str.Pattern.{split_parts}
 use Rattle.std.proofs.lemmas.Option.{MatchOption-at_some, MatchOption-at_none}
 use Rattle.std.proofs.lemmas.Result.{err_from_is_err_and}

@@ -1,5 +1,5 @@
 -- First the root word, then the number.
-use Rattle.std.proofs.Common.{◌≡◌, sym, refl, subst}
+use Rattle.std.proofs.Common.{refl}
 use Rattle.std.proofs.lemmas.Result.{err_from_is_err_and}
 use Rattle.tree.specs.Value.{value_at}
 use Rattle.law.specs.Calls.{write}

@@ -1,5 +1,4 @@
 -- First the root word, then the edit.
-use Rattle.std.proofs.Common.{◌≡◌, sym, subst}
 use Rattle.std.proofs.lemmas.Result.{err_from_is_err_and}
 use Rattle.performing.proofs.Wholes.{slot_there, slot_here, able_there, whole, no_root, counts_small}
 use Rattle.performing.proofs.perform.root_and_make.Goals as goal

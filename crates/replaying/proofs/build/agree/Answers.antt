@@ -1,5 +1,5 @@
 -- Two runs of one list.
-use Rattle.std.proofs.Common.{◌≡◌, leb, length, sym, ◌∙◌}
+use Rattle.std.proofs.Common.{leb, length, sym, ◌∙◌}
 use Rattle.std.proofs.lemmas.Bool.{le-leb, and_from, true≢false}
 use Rattle.replaying.proofs.Outcomes.{agreed}
 use Rattle.replaying.proofs.build.agree.Goals as goal

@@ -1,5 +1,5 @@
 -- A run from a new draft.
-use Rattle.std.proofs.Common.{◌≡◌, sym, ◌∙◌}
+use Rattle.std.proofs.Common.{◌∙◌}
 use Rattle.std.proofs.lemmas.Bool.{le-leb}
 use Rattle.law.proofs.Drafts.{begun_holds}
 use Rattle.tree.specs.Value.{null}

@@ -1,7 +1,7 @@
 -- One call after another.
-use Rattle.std.proofs.Common.{◌≡◌, ◌<◌, ◌≤◌, true, false, length, sym, refl, ap, ◌∙◌, subst, arith}
+use Rattle.std.proofs.Common.{◌<◌, length, sym, refl, ◌∙◌, arith}
 use Rattle.std.proofs.lemmas.List.{drop-set-lt}
-use Rattle.std.proofs.lemmas.Bool.{le-leb, lt-leb, true≢false}
+use Rattle.std.proofs.lemmas.Bool.{le-leb, true≢false}
 use Rattle.replaying.proofs.Running.{replayed_none, replay_step, replay_whole}
 use Rattle.replaying.proofs.replay.replay.Goals as goal
 

@@ -2,7 +2,7 @@
 use Rattle.std.proofs.Common.{◌≡◌, length, take, drop}
 use Rattle.tree.specs.Value.{Value}
 use Rattle.law.specs.Law.{Holds}
-use Rattle.effects.specs.States.{meant, state_of}
+use Rattle.effects.specs.States.{meant}
 use Rattle.message.specs.Drafts.{draft_state}
 use Rattle.replaying.specs.Calls.{deeds_of, replies_of}
 use Rattle.replaying.specs.Replays.{Replayed}

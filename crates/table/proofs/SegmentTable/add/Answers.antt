@@ -1,5 +1,5 @@
 -- One more entry, of which nothing is allocated.
-use Rattle.std.proofs.Common.{◌^◌, ◌<◌, ◌≤◌, length, ◌∙◌, arith}
+use Rattle.std.proofs.Common.{◌≤◌, length, ◌∙◌, arith}
 use Rattle.std.proofs.lemmas.List.{length-set}
 use Rattle.table.specs.Meaning.{table_of}
 use Rattle.table.proofs.Entries.{count_is, entries_more, bounded_more, add_refused, add_accepted, add_full, add_large}

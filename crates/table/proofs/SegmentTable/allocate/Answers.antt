@@ -1,5 +1,5 @@
 -- An allocation takes the next words of a segment that has as many left, and changes nothing else.
-use Rattle.std.proofs.Common.{◌≡◌, ◌<◌, ◌≤◌, length, Some, sym, ap, ◌∙◌, arith}
+use Rattle.std.proofs.Common.{◌≤◌, length, Some, sym, ap, ◌∙◌, arith}
 use Rattle.table.specs.Meaning.{table_of}
 use Rattle.table.proofs.Entries.{room_enough, room_short, room_none, allocate_refused, allocate_accepted, allocated_is, take_is}
 use Rattle.table.proofs.SegmentTable.allocate.Goals as goal

@@ -1,5 +1,4 @@
 -- Where no segment has as many words left nothing changes.
-use Rattle.std.proofs.Common.{◌≡◌, sym}
 use Rattle.table.specs.Meaning.{table_of}
 use Rattle.table.proofs.Entries.{first_refused}
 use Rattle.table.proofs.SegmentTable.allocate_first.Goals as goal

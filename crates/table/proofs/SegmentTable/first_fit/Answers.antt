@@ -1,5 +1,5 @@
 -- The first segment that has as many words left, or none has.
-use Rattle.std.proofs.Common.{◌≡◌, ℕ, ◌-◌, ◌<◌, ◌≤◌, length, get_or, sym, arith, below_more}
+use Rattle.std.proofs.Common.{◌-◌, ◌<◌, ◌≤◌, length, get_or, sym, arith, below_more}
 use Rattle.table.specs.Segments.{left_in}
 use Rattle.table.specs.Entries.{no_entry}
 use Rattle.table.specs.Meaning.{table_of}

@@ -1,5 +1,5 @@
 -- Each entry goes back to the mark.
-use Rattle.std.proofs.Common.{◌≡◌, ℕ, ◌<◌, ◌≤◌, min, length, get_or, sym, refl, ap, ◌∙◌, arith}
+use Rattle.std.proofs.Common.{ℕ, ◌<◌, ◌≤◌, min, length, get_or, refl, ap, ◌∙◌, arith}
 use Rattle.table.specs.Segments.{allocated_in}
 use Rattle.table.specs.Entries.{no_entry}
 use Rattle.table.specs.Meaning.{table_of}

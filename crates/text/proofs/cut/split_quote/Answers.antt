@@ -1,5 +1,5 @@
 -- A quote opens a text unless a `#` stands before it.
-use Rattle.std.proofs.Common.{◌≡◌, lit<}
+use Rattle.std.proofs.Common.{lit<}
 use Rattle.std.proofs.lemmas.Str.Pattern.{split_parts, contains_char}
 use Rattle.std.proofs.lemmas.Option.{MatchOption-at_some, MatchOption-at_none}
 use Rattle.text.specs.Lines.{Lacks}

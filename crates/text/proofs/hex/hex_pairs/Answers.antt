@@ -1,5 +1,5 @@
 -- Each turn takes two digits.
-use Rattle.std.proofs.Common.{◌+◌, is_ok, sym, ap, ◌∙◌, subst, arith, rules}
+use Rattle.std.proofs.Common.{◌+◌, is_ok, sym, ap, ◌∙◌, subst, arith}
 use Rattle.std.proofs.ResultArms.{chosen}
 use Rattle.text.proofs.Pairs.{Sofar, too_short, bad_pair, one_more, all_read}
 use Rattle.text.proofs.hex.hex_pairs.Goals as goal

@@ -1,6 +1,6 @@
 -- After a backslash.
-use Rattle.std.proofs.Common.{◌≡◌, length, get_or, sym, ◌∙◌, subst, arith, false-eqb}
-use Rattle.text.specs.Quotes.{escaped, Used}
+use Rattle.std.proofs.Common.{length, sym, ◌∙◌, subst, arith, false-eqb}
+use Rattle.text.specs.Quotes.{Used}
 use Rattle.text.proofs.Quoting.{used_escaped, letter_escaped}
 use Rattle.text.proofs.quoted.next_letter.Goals as goal
 

@@ -1,5 +1,5 @@
 -- Each turn takes a letter.
-use Rattle.std.proofs.Common.{◌+◌, is_ok, sym, ap, ◌∙◌, subst, arith, length-drop}
+use Rattle.std.proofs.Common.{◌+◌, is_ok, sym, ap, ◌∙◌, subst, arith}
 use Rattle.std.proofs.ResultArms.{chosen}
 use Rattle.text.proofs.Pairs.{unless_any}
 use Rattle.text.proofs.Quoting.{Sofar, one_more, bad_letter, closed, letter_from}

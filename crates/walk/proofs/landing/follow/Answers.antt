@@ -1,5 +1,5 @@
 -- The three ways in which a slot leads.
-use Rattle.std.proofs.Common.{◌≡◌, sym, ◌∙◌}
+use Rattle.std.proofs.Common.{sym, ◌∙◌}
 use Rattle.tree.specs.Words.{word}
 use Rattle.walk.proofs.Landings.{lands_direct, lands_single, lands_double}
 use Rattle.walk.proofs.landing.follow.Goals as goal

@@ -1,5 +1,5 @@
 -- One step after another, and what that gives on words that show a tree.
-use Rattle.std.proofs.Common.{◌≡◌, ℕ, ◌<◌, ◌≤◌, sym, ◌∙◌, arith}
+use Rattle.std.proofs.Common.{sym, ◌∙◌, arith}
 use Rattle.tree.specs.Words.{word}
 use Rattle.tree.specs.Shows.{Memory}
 use Rattle.walk.proofs.Along.{along_some, along_none, along_end, along_root}

@@ -1,7 +1,6 @@
 -- A struct, a struct list by its tag, or a plain list.
 use Rattle.std.proofs.Common.{◌≡◌, ℕ, sym, ap, ◌∙◌}
-use Rattle.wire.specs.Pointers.{pointer_kind, list_code, offset_field, data_words, pointer_words}
-use Rattle.wire.specs.Kinds.{kind_number}
+use Rattle.wire.specs.Pointers.{pointer_kind, offset_field, data_words, pointer_words}
 use Rattle.tree.specs.Words.{word}
 use Rattle.walk.proofs.Shapes.{not_struct, not_composite, shape_struct, shape_rows, shape_plain}
 use Rattle.walk.proofs.shape.shape_of.Goals as goal

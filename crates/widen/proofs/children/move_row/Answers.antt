@@ -1,7 +1,7 @@
 -- One child after another.
 use Rattle.std.proofs.Common.{◌≡◌, ℕ, ◌+◌, ◌%◌, ◌^◌, ◌<◌, Ok, Err, refl, ap, subst, arith}
 use Rattle.std.proofs.lemmas.Result.{err_from_is_err_and}
-use Rattle.tree.specs.Value.{pointers, slot}
+use Rattle.tree.specs.Value.{pointers}
 use Rattle.table.specs.Placing.{each}
 use Rattle.law.specs.Law.{memory}
 use Rattle.walk.specs.Landings.{landing_of}

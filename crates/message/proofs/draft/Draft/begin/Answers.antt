@@ -1,5 +1,5 @@
 -- Nothing is there, and the offers are the first ones.
-use Rattle.std.proofs.Common.{◌≡◌, sym, refl, ◌∙◌, subst}
+use Rattle.std.proofs.Common.{sym, refl, ◌∙◌, subst}
 use Rattle.law.specs.Law.{Offered}
 use Rattle.message.proofs.draft.Draft.begin.Goals as goal
 

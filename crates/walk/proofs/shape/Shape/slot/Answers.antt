@@ -1,5 +1,5 @@
 -- The word of a slot is counted by far fewer than 64 bits.
-use Rattle.std.proofs.Common.{ℕ, ◌*◌, ◌<◌, ◌≤◌, arith, rules}
+use Rattle.std.proofs.Common.{◌*◌, ◌<◌, ◌≤◌, arith, rules}
 use Rattle.std.proofs.lemmas.Nat.{mul-le}
 use Rattle.walk.proofs.shape.Shape.slot.Goals as goal
 
