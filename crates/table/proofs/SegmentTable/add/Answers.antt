@@ -21,7 +21,7 @@ pub invariant_of-t : goal.invariant_of-t
 invariant_of-t c =
     record {
       few = omega arith;
-      whole = length-set c.args.self.now.entries c.args.self.now.count _ ∙ c.args.self.now.whole;
+      whole = length-set c.args.self.now.entries _ _ ∙ c.args.self.now.whole;
       bounded = bounded_more c.args.self.now.count c.args.self.now.entries c.args.c (omega arith) (omega arith) c.args.self.now.bounded;
     }
 
