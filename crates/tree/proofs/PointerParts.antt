@@ -18,7 +18,7 @@ aim_offset p t hp ht =
     rw e (omega (arith, b)))
     (cases_lt p t)
 
--- what the pointer-target is, by the sign of the offset-between
+-- what `pointer_target` is, by the sign of `offset_between`
 pub target_forward : (p x : ℕ) → p < 2 ^ 63 → offset_field x < 2 ^ 29 → pointer_target p x ≡ p + 1 + offset_field x
 target_forward p x hp hx =
     let q : offset_field x / 536870912 ≡ 0 = omega arith in
