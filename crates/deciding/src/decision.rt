@@ -13,7 +13,7 @@ use super::making::choose;
 use judging::ruling::Ruling;
 use judging::site::{Site, find_site};
 use segments::reading::Reading;
-use walk::path::Step;
+use path::step::Step;
 use walk::shape::Shape;
 
 // What is to be made where, and the shape of which the sizes are answered.

@@ -14,7 +14,7 @@ use judging::objections::no_number;
 use judging::ruling::{Home, Ruling};
 use judging::site::{Held, Site, find_site};
 use segments::reading::Reading;
-use walk::path::Step;
+use path::step::Step;
 use wire::sizes::ElementSize;
 
 // The place of a number: the site, and the object there that has the number.

@@ -9,7 +9,7 @@ use Rattle.tree.proofs.Paths.{shows_null, shows_object}
 use Rattle.law.specs.Calls.{Answer, refused, nowhere}
 use Rattle.law.specs.Machine.{went, bad_path, fine, wrong, verdict, judge_path}
 use Rattle.law.proofs.Judged.{fine_path}
-use Rattle.walk.specs.declared.path.Step.{Step}
+use Rattle.path.specs.declared.step.Step.{Step}
 use Rattle.walk.specs.Slots.{nowhere_at, steps_of, place_in}
 use Rattle.walk.proofs.Along.{along_root}
 use Rattle.judging.specs.declared.site.Held.{Held}

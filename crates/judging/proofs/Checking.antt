@@ -3,7 +3,7 @@ use Rattle.std.proofs.Common.{◌≡◌, ℕ, suc, ◌+◌, ◌<◌, ◌≤◌, 
 use Rattle.std.proofs.lemmas.List.{drop_all}
 use Rattle.std.proofs.lemmas.Bool.{lt-ltb, le-ltb, or_left, or_right, or_from}
 use Rattle.law.specs.Machine.{bad_step, any_bad, bad_path}
-use Rattle.walk.specs.declared.path.Step.{Step}
+use Rattle.path.specs.declared.step.Step.{Step}
 use Rattle.walk.specs.Slots.{steps_of}
 
 length_steps : (ss : List Step) → length (steps_of ss) ≡ length ss

@@ -5,7 +5,7 @@ use Rattle.tree.specs.Shows.{Memory, Shows}
 use Rattle.law.specs.Calls.{Answer, sizes, no_sizes}
 use Rattle.law.specs.Machine.{verdict}
 use Rattle.law.specs.Reads.{Query, no_answer, found, answered, look}
-use Rattle.walk.specs.declared.path.Step.{Step}
+use Rattle.path.specs.declared.step.Step.{Step}
 use Rattle.walk.specs.declared.shape.Shape.{Shape}
 use Rattle.walk.specs.Shapes.{shape_meant}
 use Rattle.walk.specs.Slots.{steps_of}

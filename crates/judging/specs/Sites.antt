@@ -5,7 +5,7 @@ use Rattle.tree.specs.Value.{Value, null, object, value_at}
 use Rattle.tree.specs.Shows.{Memory, land, walk}
 use Rattle.tree.specs.Decode.{shape_at}
 use Rattle.law.specs.Machine.{bad_path, fine, wrong, judge_path}
-use Rattle.walk.specs.declared.path.Step.{Step}
+use Rattle.path.specs.declared.step.Step.{Step}
 use Rattle.walk.specs.declared.shape.Shape.{Shape}
 use Rattle.walk.specs.Landings.{landing_of}
 use Rattle.walk.specs.Shapes.{shape_meant}

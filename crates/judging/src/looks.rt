@@ -19,7 +19,7 @@ use elements::get_element;
 use elements::kinds::PrimitiveElement;
 use segments::reading::Reading;
 use walk::landing::word_at;
-use walk::path::Step;
+use path::step::Step;
 use walk::shape::Shape;
 
 // The number in what the site holds. On a sound message its word is one of the object, so that the sum cannot wrap.

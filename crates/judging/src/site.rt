@@ -10,7 +10,8 @@ ghost use Rattle.judging.specs.Sites.{Holds, Met, meant, shape_held, Judged};
 use super::ruling::Ruling;
 use segments::reading::Reading;
 use walk::landing::{Landing, follow, word_at};
-use walk::path::{Step, resolve};
+use path::step::Step;
+use walk::path::resolve;
 use walk::shape::{Shape, shape_of};
 
 // An object: where it lies, and its shape.

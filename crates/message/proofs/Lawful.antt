@@ -20,7 +20,7 @@ use Rattle.deciding.specs.Deciding.{Settled, Lodged}
 use Rattle.judging.specs.declared.site.Held.{Held}
 use Rattle.judging.specs.Sites.{Leads}
 use Rattle.performing.specs.Able.{Ready, ReadyNumber}
-use Rattle.walk.specs.declared.path.Step.{Step}
+use Rattle.path.specs.declared.step.Step.{Step}
 use Rattle.walk.specs.Slots.{steps_of}
 use Rattle.law.specs.Exact.{call_outcome}
 use Rattle.effects.specs.Parts.{Went}

@@ -6,7 +6,7 @@ use Rattle.law.specs.Reads.{Query, look}
 use Rattle.judging.specs.declared.ruling.Ruling.{Ruling}
 use Rattle.judging.specs.Replies.{reply}
 use Rattle.law.specs.Law.{Source, State, Holds, Reply, met_in, Lawful}
-use Rattle.walk.specs.declared.path.Step.{Step}
+use Rattle.path.specs.declared.step.Step.{Step}
 use Rattle.walk.specs.Slots.{steps_of}
 use Rattle.deciding.specs.declared.edit.Edit.{Edit}
 use Rattle.deciding.specs.Edits.{edit_of}

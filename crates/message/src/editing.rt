@@ -18,7 +18,7 @@ use judging::ruling::Home;
 use performing::number::perform_number;
 use performing::perform::perform;
 use segments::source::Source;
-use walk::path::Step;
+use path::step::Step;
 use walk::shape::Shape;
 
 // Where the place's pointer leads; nowhere for a null place.

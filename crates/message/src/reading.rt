@@ -14,7 +14,7 @@ use elements::kinds::PrimitiveElement;
 use judging::looks::{read_field, read_item, read_number, read_row, read_sizes};
 use judging::ruling::{Home, Ruling};
 use segments::source::Source;
-use walk::path::Step;
+use path::step::Step;
 use walk::shape::Shape;
 
 impl<S: Source> Draft<S> {

@@ -16,7 +16,7 @@ use deciding::edit::Edit;
 use elements::kinds::PrimitiveElement;
 use judging::ruling::Home;
 use segments::source::Source;
-use walk::path::Step;
+use path::step::Step;
 use wire::sizes::StructSize;
 
 impl<S: Source> Draft<S> {

@@ -9,7 +9,7 @@ use Rattle.wire.specs.Elements.{bit_of}
 use Rattle.law.specs.Calls.{write, value, done, refused}
 use Rattle.law.specs.Reads.{number, shape}
 use Rattle.law.specs.Law as law
-use Rattle.walk.specs.declared.path.Step.{Step}
+use Rattle.path.specs.declared.step.Step.{Step}
 use Rattle.walk.specs.Slots.{steps_of}
 use Rattle.judging.specs.Rulings.{home_of, answer_of}
 use Rattle.judging.specs.Replies.{sizes_meant}

@@ -2,7 +2,7 @@
 use deciding::edit::Edit;
 use judging::ruling::{Home, Ruling};
 use message::refusal::Placed;
-use walk::path::Step;
+use path::step::Step;
 use walk::shape::Shape;
 
 // A number of one of the seven kinds.

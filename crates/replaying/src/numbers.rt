@@ -16,7 +16,7 @@ use judging::ruling::Home;
 use message::draft::Draft;
 use message::refusal::Refused;
 use segments::source::Source;
-use walk::path::Step;
+use path::step::Step;
 
 // The answer of a call that answers no more than that it is done.
 pub fn done<F: Drop>(r: Result<(), Refused<F>>) -> Reply

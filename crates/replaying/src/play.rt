@@ -12,7 +12,7 @@ use deciding::edit::Edit;
 use message::draft::Draft;
 use message::refusal::{Placed, Refused};
 use segments::source::Source;
-use walk::path::Step;
+use path::step::Step;
 
 // The answer of an edit with sizes.
 fn sized<F: Drop>(r: Result<Placed, Refused<F>>) -> Reply

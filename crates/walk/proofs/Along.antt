@@ -10,7 +10,7 @@ use Rattle.tree.proofs.Roads.{paved_live}
 use Rattle.tree.proofs.Shapes.{slot_in}
 use Rattle.tree.proofs.Decoding.{describes_shape}
 use Rattle.law.specs.Machine.{meets, went}
-use Rattle.walk.specs.declared.path.Step.{Step}
+use Rattle.path.specs.declared.step.Step.{Step}
 use Rattle.walk.specs.declared.path.Nowhere.{Nowhere}
 use Rattle.walk.specs.Slots as slots
 use Rattle.walk.specs.Slots.{nowhere_at, step_of, steps_of, counted_word, next_slot, slots_along, place_in}

@@ -5,7 +5,7 @@ use Rattle.tree.specs.Value.{Shape, Value, slot}
 use Rattle.tree.specs.Shows.{Memory, Landing, land, walk}
 use Rattle.tree.specs.Decode.{shape_at}
 use Rattle.law.specs.Machine.{meets, went}
-use Rattle.walk.specs.declared.path.Step.{Step}
+use Rattle.path.specs.declared.step.Step.{Step}
 use Rattle.walk.specs.declared.path.Nowhere.{Nowhere}
 
 abbrev pub step_of : Step → value.Step

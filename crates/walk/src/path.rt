@@ -9,17 +9,9 @@ ghost use Rattle.walk.specs.Slots.{step_of, steps_of, next_slot, slots_along, pl
 
 use super::landing::{follow, word_at};
 use super::shape::{Shape, shape_of};
+use path::step::Step;
 use segments::reading::Reading;
 use wire::sizes::ElementSize;
-
-// One step of a path: kind 0 is a pointer of a struct (element 0), 1 an element of a pointer list (pointer 0), 2 a pointer of a
-// row of a struct list.
-#[derive(Clone, Copy)]
-pub struct Step {
-    pub kind: u32,
-    pub element: u32,
-    pub pointer: u32,
-}
 
 // The step, counted from 0, that goes nowhere: it meets null, another kind or a number out of range.
 #[derive(Clone, Copy)]
