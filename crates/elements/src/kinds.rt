@@ -4,6 +4,7 @@ ghost use Rattle.std.proofs.Common.{SFits, to_z, of_z, rules};
 ghost use Rattle.std.specs.Int.{w32};
 ghost use Rattle.wire.specs.Sizes.{code_of, element_bits};
 ghost use Rattle.wire.specs.Elements.{bit_of, flag_of};
+ghost use Rattle.elements.specs.Laws.{ElementLaws};
 
 use wire::bits::low_bits;
 use wire::sizes::ElementSize;
@@ -30,13 +31,7 @@ pub trait PrimitiveElement: Sized {
     fn from_bits(b: u64) -> Self
         ensures value { result ≡ value (b % 2 ^ element_bits code) };
 
-    ghost known: { code < 6 };
-
-    ghost small: { (x : Self) → fits x → bits x < 2 ^ element_bits code };
-
-    ghost back: { (x : Self) → fits x → value (bits x) ≡ x };
-
-    ghost forth: { (b : ℕ) → b < 2 ^ element_bits code → bits (value b) ≡ b };
+    ghost laws: { ElementLaws code fits bits value };
 }
 
 impl PrimitiveElement for () {
@@ -48,13 +43,7 @@ impl PrimitiveElement for () {
 
     ghost value = { λ _. tt };
 
-    ghost known = { Prim.search rules };
-
-    ghost small = { Prim.search rules };
-
-    ghost back = { Prim.search rules };
-
-    ghost forth = { Prim.search rules };
+    ghost laws = { Prim.search rules };
 
     fn element_size() -> ElementSize {
         ElementSize::Void
@@ -76,20 +65,14 @@ impl PrimitiveElement for bool {
 
     ghost value = { flag_of };
 
-    ghost known = { Prim.search rules };
-
-    ghost small = { Prim.search rules };
-
-    ghost back = { Prim.search rules };
-
-    ghost forth = { Prim.search rules };
+    ghost laws = { Prim.search rules };
 
     fn element_size() -> ElementSize {
         ElementSize::Bit
     }
 
     fn to_bits(self) -> u64 {
-        if self { 1 } else { 0 }
+        u64::from(self)
     }
 
     fn from_bits(b: u64) -> Self {
@@ -106,13 +89,7 @@ impl PrimitiveElement for u8 {
 
     ghost value = { λ b. b };
 
-    ghost known = { Prim.search rules };
-
-    ghost small = { Prim.search rules };
-
-    ghost back = { Prim.search rules };
-
-    ghost forth = { Prim.search rules };
+    ghost laws = { Prim.search rules };
 
     fn element_size() -> ElementSize {
         ElementSize::Byte
@@ -136,13 +113,7 @@ impl PrimitiveElement for u16 {
 
     ghost value = { λ b. b };
 
-    ghost known = { Prim.search rules };
-
-    ghost small = { Prim.search rules };
-
-    ghost back = { Prim.search rules };
-
-    ghost forth = { Prim.search rules };
+    ghost laws = { Prim.search rules };
 
     fn element_size() -> ElementSize {
         ElementSize::TwoBytes
@@ -166,13 +137,7 @@ impl PrimitiveElement for u32 {
 
     ghost value = { λ b. b };
 
-    ghost known = { Prim.search rules };
-
-    ghost small = { Prim.search rules };
-
-    ghost back = { Prim.search rules };
-
-    ghost forth = { Prim.search rules };
+    ghost laws = { Prim.search rules };
 
     fn element_size() -> ElementSize {
         ElementSize::FourBytes
@@ -196,13 +161,7 @@ impl PrimitiveElement for u64 {
 
     ghost value = { λ b. b };
 
-    ghost known = { Prim.search rules };
-
-    ghost small = { Prim.search rules };
-
-    ghost back = { Prim.search rules };
-
-    ghost forth = { Prim.search rules };
+    ghost laws = { Prim.search rules };
 
     fn element_size() -> ElementSize {
         ElementSize::EightBytes
@@ -217,7 +176,7 @@ impl PrimitiveElement for u64 {
     }
 }
 
-// In two's complement.
+// As the unsigned number of the same bits, in two's complement.
 impl PrimitiveElement for i32 {
     ghost code = { 4 };
 
@@ -227,23 +186,17 @@ impl PrimitiveElement for i32 {
 
     ghost value = { to_z w32 };
 
-    ghost known = { Prim.search rules };
-
-    ghost small = { Prim.search rules };
-
-    ghost back = { Prim.search rules };
-
-    ghost forth = { Prim.search rules };
+    ghost laws = { Prim.search rules };
 
     fn element_size() -> ElementSize {
-        ElementSize::FourBytes
+        u32::element_size()
     }
 
     fn to_bits(self) -> u64 {
-        self.cast_unsigned() as u64
+        self.cast_unsigned().to_bits()
     }
 
     fn from_bits(b: u64) -> Self {
-        (low_bits(b, 32) as u32).cast_signed()
+        u32::from_bits(b).cast_signed()
     }
 }

@@ -12,28 +12,33 @@ use wire::sizes::ElementSize;
 pub mod kinds;
 
 // The word with its n bits from bit k on replaced by b.
+#[tactic(auto, using(wire::proofs::Splices::swapped, wire::proofs::Splices::patched_lt, wire::proofs::Splices::shifted_up))]
 fn splice(word: u64, k: u32, n: u32, b: u64) -> u64
     requires below { k < 64 }
     requires room { k + n ≤ 64 }
     requires bits { b < 2 ^ n }
     ensures { result ≡ patched word k n b }
 {
-    if n == 64 {
-        return b;
-    }
     let old = low_bits(word >> k, n);
     word - (old << k) + (b << k)
 }
 
-// The word of a list that holds the element of this index, counted from the list's first word.
-pub fn element_word<E: PrimitiveElement>(index: usize) -> usize
-    ensures value { result ≡ element_word E.PrimitiveElement.code index }
+// The word of a list of this kind that holds the element of this index, counted from the list's first word.
+pub fn element_word_of(element: ElementSize, index: usize) -> usize
+    ensures value { result ≡ element_word (code_of element) index }
 {
-    let bits = E::element_size().bits() as usize;
+    let bits = element.bits() as usize;
     if bits == 0 {
         return 0;
     }
     index / (64 / bits)
+}
+
+// The same for a kind of element that is known by its type.
+pub fn element_word<E: PrimitiveElement>(index: usize) -> usize
+    ensures value { result ≡ element_word E.PrimitiveElement.code index }
+{
+    element_word_of(E::element_size(), index)
 }
 
 // The lowest bit of the element of this index in its word.
@@ -52,6 +57,7 @@ pub fn get_element<E: PrimitiveElement>(word: u64, index: usize) -> E
 }
 
 // The word with the element of this index replaced, which is read back, and no other.
+#[tactic(auto, using(wire::proofs::Splices::element_back))]
 pub fn put_element<E: PrimitiveElement>(word: u64, index: usize, x: E) -> u64
     ensures word { result ≡ element_put word E.PrimitiveElement.code index (E.PrimitiveElement.bits x) }
     ensures back { E.PrimitiveElement.value (element_in result E.PrimitiveElement.code index) ≡ x }

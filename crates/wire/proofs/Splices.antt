@@ -1,18 +1,14 @@
 -- Some bits of a word replaced: these are read back, and no others change.
-use Rattle.std.proofs.Common.{◌≡◌, ℕ, zero, suc, ◌+◌, ◌-◌, ◌*◌, ◌/◌, ◌%◌, ◌^◌, ◌<◌, ◌≤◌, ◌⊎◌, sym, ap, ◌∙◌, subst, inl, inr, ⊎_elim, mul-le-mul_right, mod-eq_of_lt, suc-mul, arith}
+use Rattle.std.proofs.Common.{◌≡◌, ℕ, zero, suc, ◌+◌, ◌-◌, ◌*◌, ◌/◌, ◌%◌, ◌^◌, ◌<◌, ◌≤◌, ◌⊎◌, sym, ap, ◌∙◌, subst, inl, inr, arith}
+use Rattle.std.proofs.Math.Nat.{mul_comm}
 use lib.Pow.{mod-mod-pow}
-use Rattle.std.proofs.lemmas.Nat.{pow_pos, pow-add, mod-pow-add, mod_below, shr_split, shr_below, shr-shr, shr_high, mod_low, field_of, shl_whole}
-use Rattle.std.proofs.lemmas.Bool.{cases_lt}
+use Rattle.std.proofs.lemmas.Nat.{pow_pos, pow-add, mul-add-lt, mod-pow-add, mod_below, shr_split, shr_below, shr-shr, shr_high, mod_low, field_of, shl_whole}
 use Rattle.wire.specs.Sizes.{element_bits}
 use Rattle.wire.specs.Elements.{picked, patched, element_word, element_bit, element_in, element_put}
 
 -- digits q and b side by side
 pub join_lt : (j n q b : ℕ) → q < 2 ^ j → b < 2 ^ n → q * 2 ^ n + b < 2 ^ (j + n)
-join_lt j n q b h l =
-    let m : suc q * 2 ^ n ≤ 2 ^ j * 2 ^ n = mul-le-mul_right (2 ^ n) h in
-    let s = suc-mul q (2 ^ n) in
-    let p = pow-add 2 j n in
-    omega arith
+join_lt j n q b h l = rw (pow-add 2 j n, mul_comm (2 ^ j) (2 ^ n)) (mul-add-lt q (2 ^ n) b (2 ^ j) h l)
 
 -- ## The word by its parts
 
@@ -38,17 +34,9 @@ patched_lt word k n b w h l =
 
 -- ## What shifts of 64 bits compute
 
-pub picked_le : (word k n : ℕ) → picked word k n * 2 ^ k ≤ word
-picked_le word k n = let e = three_parts word k n in omega arith
-
 -- the bits leave, others come
 pub swapped : (word k n b : ℕ) → (word - picked word k n * 2 ^ k) + b * 2 ^ k ≡ patched word k n b
 swapped word k n b = let e = three_parts word k n in omega arith
-
-pub shifted_back : (word k n old : ℕ) → word < 2 ^ 64 → old ≡ picked word k n → (old * 2 ^ k) % 2 ^ 64 ≡ picked word k n * 2 ^ k
-shifted_back word k n old w e =
-    let l = picked_le word k n in
-    ap (λ (i : ℕ). (i * 2 ^ k) % 2 ^ 64) e ∙ mod-eq_of_lt {n = picked word k n * 2 ^ k} {m = 2 ^ 64} (omega arith)
 
 pub shifted_up : (k n b : ℕ) → k + n ≤ 64 → b < 2 ^ n → (b * 2 ^ k) % 2 ^ 64 ≡ b * 2 ^ k
 shifted_up k n b h l = shl_whole b n k 64 l (omega arith)
@@ -102,14 +90,10 @@ patched_apart word k n b t h (inr l) = patched_below word k n b n t l
 elements_apart : (c i j : ℕ) → c < 6 → element_word c j ≡ element_word c i → (j ≡ i → ⊥) →
     (element_bits c + element_bit c i ≤ element_bit c j) ⊎ (element_bits c + element_bit c j ≤ element_bit c i)
 elements_apart zero i j h e n = inl (omega arith)
-elements_apart (suc zero) i j h e n =
-    ⊎_elim (λ (l : i < j). inl (omega arith)) (λ (l : j ≤ i). inr (omega arith)) (cases_lt i j)
-elements_apart (suc (suc zero)) i j h e n =
-    ⊎_elim (λ (l : i < j). inl (omega arith)) (λ (l : j ≤ i). inr (omega arith)) (cases_lt i j)
-elements_apart (suc (suc (suc zero))) i j h e n =
-    ⊎_elim (λ (l : i < j). inl (omega arith)) (λ (l : j ≤ i). inr (omega arith)) (cases_lt i j)
-elements_apart (suc (suc (suc (suc zero)))) i j h e n =
-    ⊎_elim (λ (l : i < j). inl (omega arith)) (λ (l : j ≤ i). inr (omega arith)) (cases_lt i j)
+elements_apart (suc zero) i j h e n = grind arith
+elements_apart (suc (suc zero)) i j h e n = grind arith
+elements_apart (suc (suc (suc zero))) i j h e n = grind arith
+elements_apart (suc (suc (suc (suc zero)))) i j h e n = grind arith
 elements_apart (suc (suc (suc (suc (suc m))))) i j h e n = absurd (n (omega arith))
 
 pub element_back : (word c i b : ℕ) → b < 2 ^ element_bits c → element_in (element_put word c i b) c i ≡ b

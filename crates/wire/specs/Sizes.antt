@@ -1,7 +1,8 @@
 -- Sizes in words, and the limits that a pointer word sets to them.
-use Rattle.std.specs.Prelude.{ℕ, zero, suc, ◌+◌, ◌*◌, ◌/◌, ◌^◌, cond, Some, None, Ok, Err, Option, Result, nat_le}
+use Rattle.std.specs.Prelude.{◌≡◌, ℕ, zero, suc, ◌+◌, ◌*◌, ◌/◌, ◌^◌, ◌<◌, cond, Ok, Err, Result, MatchResult, nat_le}
 use Rattle.wire.specs.declared.sizes.ElementSize.{ElementSize}
 use Rattle.wire.specs.declared.sizes.ElementSize.TheVariants.{Void, Bit, Byte, TwoBytes, FourBytes, EightBytes, Pointer, InlineComposite}
+use Rattle.wire.specs.declared.sizes.UnknownCode.{UnknownCode}
 use Rattle.wire.specs.declared.sizes.TooLarge.{TooLarge}
 use Rattle.wire.specs.declared.sizes.TooLarge.TheVariants.{Elements, Rows, Words}
 
@@ -29,17 +30,9 @@ element_bits (suc (suc (suc (suc (suc n))))) = 64
 abbrev pub list_words : (code n : ℕ) → ℕ
 list_words code n = (n * element_bits code + 63) / 64
 
--- the element size of a code, if it is one
-abbrev pub size_of_code : ℕ → Option ElementSize
-size_of_code zero = Some Void
-size_of_code (suc zero) = Some Bit
-size_of_code (suc (suc zero)) = Some Byte
-size_of_code (suc (suc (suc zero))) = Some TwoBytes
-size_of_code (suc (suc (suc (suc zero)))) = Some FourBytes
-size_of_code (suc (suc (suc (suc (suc zero))))) = Some EightBytes
-size_of_code (suc (suc (suc (suc (suc (suc zero)))))) = Some Pointer
-size_of_code (suc (suc (suc (suc (suc (suc (suc zero))))))) = Some InlineComposite
-size_of_code (suc (suc (suc (suc (suc (suc (suc (suc n)))))))) = None
+-- the result is the element size of this code, or the code itself, which is none
+abbrev pub Decodes : ℕ → Result ElementSize UnknownCode → Type 0
+Decodes code r = MatchResult r (λ size. code_of size ≡ code) (λ e. (e.0 ≡ code) × (7 < code))
 
 -- a list's count stays below 2 ^ 29
 abbrev pub sized_list : (code n : ℕ) → Result ℕ TooLarge

@@ -2,19 +2,20 @@
 ghost use Rattle.std.specs.Prelude.{◌≡◌, ℕ, ◌+◌, ◌*◌, ◌%◌, ◌^◌, ◌<◌, ◌≤◌, ℤ, pos, ◌≤ℤ◌, ◌<ℤ◌, ◌==◌};
 ghost use Rattle.wire.specs.Sizes.{code_of};
 ghost use Rattle.wire.specs.Kinds.{kind_number};
+ghost use Rattle.wire.specs.Elements.{picked, bit_of};
 ghost use Rattle.wire.specs.Pointers.{pointer_kind, pointer_offset, offset_field, signed_target, pointer_target, data_words, pointer_words, list_code, list_count, far_segment, far_word, far_mark, offset_between, struct_pointer, list_pointer, struct_list_tag, single_far, double_far, empty_struct, re_aimed, unaimed};
 ghost use Rattle.wire.specs.Parts.{StructParts, ListParts, TagParts, FarParts, SameObject};
 
 use super::bits::{join, low_bits};
 use super::sizes::{ElementSize, StructSize};
 
-// What a pointer word points at.
+// What a pointer word points at, by the number of its kind.
 #[derive(Clone, Copy, Debug, PartialEq, Eq)]
 pub enum WirePointerKind {
-    Struct,
-    List,
-    Far,
-    Other,
+    Struct = 0,
+    List = 1,
+    Far = 2,
+    Other = 3,
 }
 
 // A word read as a pointer.
@@ -25,6 +26,14 @@ pub struct WirePointer {
 
 // The parts of a pointer word. A part that the word's kind does not have is read all the same.
 impl WirePointer {
+    // So many bits of the word, from bit `from` on.
+    fn field(self, from: u32, bits: u32) -> u64
+        requires { from < 64 }
+        ensures { result ≡ picked self.word from bits }
+    {
+        low_bits(self.word >> from, bits)
+    }
+
     pub fn is_null(self) -> bool
         ensures value { result ≡ (self.word == 0) }
     {
@@ -34,7 +43,7 @@ impl WirePointer {
     pub fn kind(self) -> WirePointerKind
         ensures value { kind_number result ≡ pointer_kind self.word }
     {
-        match low_bits(self.word, 2) {
+        match self.field(0, 2) {
             0 => WirePointerKind::Struct,
             1 => WirePointerKind::List,
             2 => WirePointerKind::Far,
@@ -45,14 +54,14 @@ impl WirePointer {
     pub fn is_far(self) -> bool
         ensures value { result ≡ (pointer_kind self.word == 2) }
     {
-        low_bits(self.word, 2) == 2
+        self.kind() == WirePointerKind::Far
     }
 
     // The offset of a struct or list pointer, in words from the word after it.
     pub fn offset(self) -> i32
         ensures value { result ≡ pointer_offset self.word }
     {
-        (low_bits(self.word, 32) as u32).cast_signed() >> 2
+        (self.field(0, 32) as u32).cast_signed() >> 2
     }
 
     // The word to which a struct or list pointer in word `position` leads. A place before the segment's start becomes a number
@@ -62,8 +71,9 @@ impl WirePointer {
         ensures inside { position < 2 ^ 63 → pos 0 ≤ℤ signed_target position self.word → pos result ≡ signed_target position self.word }
         ensures before { position < 2 ^ 63 → signed_target position self.word <ℤ pos 0 → 2 ^ 63 ≤ result }
     {
-        let offset = (self.offset() as i64).cast_unsigned();
-        position.wrapping_add(1).wrapping_add(offset as usize)
+        position
+            .wrapping_add(1)
+            .wrapping_add_signed(self.offset() as isize)
     }
 
     // The sections of the struct, or of the rows behind a tag.
@@ -72,58 +82,50 @@ impl WirePointer {
         ensures pointers { result.pointers ≡ pointer_words self.word }
     {
         StructSize {
-            data: low_bits(self.word >> 32, 16) as u16,
-            pointers: (self.word >> 48) as u16,
+            data: self.field(32, 16) as u16,
+            pointers: self.field(48, 16) as u16,
         }
     }
 
     pub fn element_size(self) -> ElementSize
         ensures value { code_of result ≡ list_code self.word }
     {
-        match low_bits(self.word >> 32, 3) {
-            0 => ElementSize::Void,
-            1 => ElementSize::Bit,
-            2 => ElementSize::Byte,
-            3 => ElementSize::TwoBytes,
-            4 => ElementSize::FourBytes,
-            5 => ElementSize::EightBytes,
-            6 => ElementSize::Pointer,
-            _ => ElementSize::InlineComposite,
-        }
+        // Three bits are always a code.
+        ElementSize::try_from(self.field(32, 3) as u32).unwrap()
     }
 
     // The elements of a list; of a struct list the words of its rows.
     pub fn element_count(self) -> u32
         ensures value { result ≡ list_count self.word }
     {
-        (self.word >> 35) as u32
+        self.field(35, 29) as u32
     }
 
     // The rows of a struct list, from its tag.
     pub fn row_count(self) -> u32
         ensures value { result ≡ offset_field self.word }
     {
-        (low_bits(self.word, 32) >> 2) as u32
+        self.field(2, 30) as u32
     }
 
     pub fn far_segment(self) -> usize
         ensures value { result ≡ far_segment self.word }
     {
-        (self.word >> 32) as usize
+        self.field(32, 32) as usize
     }
 
     // The word of the landing pad.
     pub fn far_word(self) -> usize
         ensures value { result ≡ far_word self.word }
     {
-        (low_bits(self.word, 32) >> 3) as usize
+        self.field(3, 29) as usize
     }
 
     // Whether the landing pad has two words.
     pub fn is_double_far(self) -> bool
         ensures value { result ≡ (far_mark self.word == 1) }
     {
-        low_bits(self.word >> 2, 1) == 1
+        self.field(2, 1) == 1
     }
 }
 
@@ -139,6 +141,25 @@ fn struct_half(size: StructSize) -> u64
     ensures { result ≡ size.data + size.pointers * 65536 }
 {
     join(size.pointers as u64, 16, size.data as u64)
+}
+
+// The word of a kind, the 30 bits above it, and an upper half.
+fn pack(kind: WirePointerKind, field: u64, half: u64) -> WirePointer
+    requires field { field < 2 ^ 30 }
+    requires half { half < 2 ^ 32 }
+    ensures { result.word ≡ kind_number kind + field * 4 + half * 2 ^ 32 }
+{
+    WirePointer {
+        word: join(half, 32, join(field, 2, kind as u64)),
+    }
+}
+
+// A far pointer to a landing pad of one word, or of two.
+fn far(segment: usize, word: usize, double: bool) -> WirePointer
+    ensures { result.word ≡ 2 + bit_of double * 4 + word % 2 ^ 29 * 8 + segment % 2 ^ 32 * 2 ^ 32 }
+{
+    let field = join(low_bits(word as u64, 29), 1, double as u64);
+    pack(WirePointerKind::Far, field, low_bits(segment as u64, 32))
 }
 
 // The word of given parts. A number keeps the lowest bits for which its field has room.
@@ -164,9 +185,7 @@ impl WirePointer {
         ensures parts { StructParts result.word position target size.data size.pointers }
     {
         let offset = offset_between(position, target);
-        WirePointer {
-            word: join(struct_half(size), 32, join(offset, 2, 0)),
-        }
+        pack(WirePointerKind::Struct, offset, struct_half(size))
     }
 
     // A pointer in word `position` to a list in word `target`: so many elements, of a struct list the words of its rows.
@@ -175,10 +194,8 @@ impl WirePointer {
         ensures parts { ListParts result.word position target (code_of element) count }
     {
         let offset = offset_between(position, target);
-        let half = join(low_bits(count as u64, 29), 3, element.code() as u64);
-        WirePointer {
-            word: join(half, 32, join(offset, 2, 1)),
-        }
+        let half = join(low_bits(count as u64, 29), 3, element as u64);
+        pack(WirePointerKind::List, offset, half)
     }
 
     // The tag of a struct list.
@@ -187,9 +204,7 @@ impl WirePointer {
         ensures parts { TagParts result.word rows size.data size.pointers }
     {
         let rows = low_bits(rows as u64, 30);
-        WirePointer {
-            word: join(struct_half(size), 32, join(rows, 2, 0)),
-        }
+        pack(WirePointerKind::Struct, rows, struct_half(size))
     }
 
     // A far pointer to one landing pad word.
@@ -197,10 +212,7 @@ impl WirePointer {
         ensures word { result.word ≡ single_far (segment % 2 ^ 32) (word % 2 ^ 29) }
         ensures parts { FarParts result.word segment word 0 }
     {
-        let low = join(low_bits(word as u64, 29), 3, 2);
-        WirePointer {
-            word: join(low_bits(segment as u64, 32), 32, low),
-        }
+        far(segment, word, false)
     }
 
     // A far pointer to two landing pad words.
@@ -208,10 +220,7 @@ impl WirePointer {
         ensures word { result.word ≡ double_far (segment % 2 ^ 32) (word % 2 ^ 29) }
         ensures parts { FarParts result.word segment word 1 }
     {
-        let low = join(low_bits(word as u64, 29), 3, 6);
-        WirePointer {
-            word: join(low_bits(segment as u64, 32), 32, low),
-        }
+        far(segment, word, true)
     }
 
     // The struct or list pointer in word `position` to the object in word `target` of which `self` tells the sizes.
@@ -220,18 +229,13 @@ impl WirePointer {
         ensures parts { SameObject result.word self.word position target }
     {
         let offset = offset_between(position, target);
-        let low = join(offset, 2, low_bits(self.word, 2));
-        WirePointer {
-            word: join(self.word >> 32, 32, low),
-        }
+        pack(self.kind(), offset, self.word >> 32)
     }
 
     // The struct or list pointer with offset 0, for the second word of a double landing pad.
     pub fn unaimed(self) -> WirePointer
         ensures word { result.word ≡ unaimed self.word }
     {
-        WirePointer {
-            word: join(self.word >> 32, 32, low_bits(self.word, 2)),
-        }
+        pack(self.kind(), 0, self.word >> 32)
     }
 }

@@ -1,6 +1,6 @@
 // Sizes of structs and lists in words, with the limits that a pointer word sets.
 ghost use Rattle.std.specs.Prelude.{◌≡◌, ℕ, ◌+◌};
-ghost use Rattle.wire.specs.Sizes.{code_of, size_of_code, element_bits, sized_list, sized_rows};
+ghost use Rattle.wire.specs.Sizes.{code_of, Decodes, element_bits, sized_list, sized_rows};
 
 // The sections of a struct: words of data, then pointers.
 #[derive(Clone, Copy, Debug, PartialEq, Eq)]
@@ -9,18 +9,22 @@ pub struct StructSize {
     pub pointers: u16,
 }
 
-// What the elements of a list are, by its code 0 to 7.
+// What the elements of a list are, by its code.
 #[derive(Clone, Copy, Debug, PartialEq, Eq)]
 pub enum ElementSize {
-    Void,
-    Bit,
-    Byte,
-    TwoBytes,
-    FourBytes,
-    EightBytes,
-    Pointer,
-    InlineComposite,
+    Void = 0,
+    Bit = 1,
+    Byte = 2,
+    TwoBytes = 3,
+    FourBytes = 4,
+    EightBytes = 5,
+    Pointer = 6,
+    InlineComposite = 7,
 }
+
+// A code of 8 or more, which no list has.
+#[derive(Clone, Copy, Debug, PartialEq, Eq)]
+pub struct UnknownCode(pub u32);
 
 // Why a list has no pointer word.
 #[derive(Clone, Copy, Debug, PartialEq, Eq)]
@@ -42,39 +46,35 @@ impl StructSize {
     }
 }
 
-impl ElementSize {
-    // The size of the elements of a list of this code.
-    pub fn from_code(code: u32) -> Option<ElementSize>
-        ensures value { result ≡ size_of_code code }
-    {
+impl From<ElementSize> for u32 {
+    ghost from_gives = { λ size code. code ≡ code_of size };
+
+    fn from(size: ElementSize) -> u32 {
+        size as u32
+    }
+}
+
+impl TryFrom<u32> for ElementSize {
+    type Error = UnknownCode;
+
+    ghost try_from_gives = { Decodes };
+
+    fn try_from(code: u32) -> Result<ElementSize, UnknownCode> {
         match code {
-            0 => Some(ElementSize::Void),
-            1 => Some(ElementSize::Bit),
-            2 => Some(ElementSize::Byte),
-            3 => Some(ElementSize::TwoBytes),
-            4 => Some(ElementSize::FourBytes),
-            5 => Some(ElementSize::EightBytes),
-            6 => Some(ElementSize::Pointer),
-            7 => Some(ElementSize::InlineComposite),
-            _ => None,
+            0 => Ok(ElementSize::Void),
+            1 => Ok(ElementSize::Bit),
+            2 => Ok(ElementSize::Byte),
+            3 => Ok(ElementSize::TwoBytes),
+            4 => Ok(ElementSize::FourBytes),
+            5 => Ok(ElementSize::EightBytes),
+            6 => Ok(ElementSize::Pointer),
+            7 => Ok(ElementSize::InlineComposite),
+            _ => Err(UnknownCode(code)),
         }
     }
+}
 
-    pub fn code(self) -> u32
-        ensures value { result ≡ code_of self }
-    {
-        match self {
-            ElementSize::Void => 0,
-            ElementSize::Bit => 1,
-            ElementSize::Byte => 2,
-            ElementSize::TwoBytes => 3,
-            ElementSize::FourBytes => 4,
-            ElementSize::EightBytes => 5,
-            ElementSize::Pointer => 6,
-            ElementSize::InlineComposite => 7,
-        }
-    }
-
+impl ElementSize {
     // The bits that a list has for each of its count.
     pub fn bits(self) -> u32
         ensures value { result ≡ element_bits (code_of self) }
@@ -85,9 +85,7 @@ impl ElementSize {
             ElementSize::Byte => 8,
             ElementSize::TwoBytes => 16,
             ElementSize::FourBytes => 32,
-            ElementSize::EightBytes => 64,
-            ElementSize::Pointer => 64,
-            ElementSize::InlineComposite => 64,
+            ElementSize::EightBytes | ElementSize::Pointer | ElementSize::InlineComposite => 64,
         }
     }
 }
@@ -100,7 +98,7 @@ pub fn list_words(element: ElementSize, count: u32) -> Result<u32, TooLarge>
         return Err(TooLarge::Elements);
     }
     let bits = count as u64 * element.bits() as u64;
-    Ok(((bits + 63) / 64) as u32)
+    Ok(bits.div_ceil(64) as u32)
 }
 
 // The words of the rows of a struct list.
