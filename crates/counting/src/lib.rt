@@ -3,17 +3,16 @@
 
 ghost use Rattle.std.specs.Prelude.{◌≡◌, [], replicate, if◌then◌else◌, Some, None, nat_lt, slice_index};
 ghost use Rattle.segments.specs.Calls.{Written, Granted};
-ghost use Rattle.counting.specs.Tally.{more, tally, struck, written};
+ghost use Rattle.counting.specs.Tally.{more, after_strike, after_write, after_grant};
 
 use segments::reading::Reading;
 use segments::refusal::{Outside, Refusal};
 use segments::source::Source;
 
-// A source below, the numbers of accepted writes and grants, and how many of these writes met each of the first 256 words of
-// segment 0. The counts stop at 2^64 - 1, and taking back leaves them.
+// The numbers of accepted writes and grants, and how many of these writes met each of the first 256 words of segment 0. They stop at
+// 2^64 - 1.
 #[derive(Drop)]
-pub struct Counting<S: Source> {
-    below: S,
+struct Counts {
     writes: u64,
     grants: u64,
     hits: [u64; 256],
@@ -26,22 +25,43 @@ fn bump(n: &mut u64)
     *n = n.saturating_add(1);
 }
 
+impl Counts {
+    // Counts an accepted write of word `w` of segment `g`.
+    fn strike(&mut self, g: usize, w: usize)
+        ensures counts { self.new ≡ after_strike g w self.old }
+    {
+        bump(&mut self.writes);
+        if g == 0 && w < 256 {
+            bump(&mut self.hits[w]);
+        }
+    }
+}
+
+// A source below, and what is counted of the calls on it; taking back leaves the counts.
+#[derive(Drop)]
+pub struct Counting<S: Source> {
+    below: S,
+    counts: Counts,
+}
+
 impl<S: Source> Counting<S> {
     // A counting layer over `below`, whose segments are all taken back first.
     pub fn new(mut below: S) -> Counting<S>
         ensures segments { S.Reading.segments result.below ≡ [] }
         ensures offers { S.Source.offers result.below ≡ S.Source.first below }
         ensures first { S.Source.first result.below ≡ S.Source.first below }
-        ensures writes { result.writes ≡ 0 }
-        ensures grants { result.grants ≡ 0 }
-        ensures hits { result.hits ≡ replicate 256 0 }
+        ensures writes { result.counts.writes ≡ 0 }
+        ensures grants { result.counts.grants ≡ 0 }
+        ensures hits { result.counts.hits ≡ replicate 256 0 }
     {
         below.take_back();
         Counting {
             below,
-            writes: 0,
-            grants: 0,
-            hits: [0; 256],
+            counts: Counts {
+                writes: 0,
+                grants: 0,
+                hits: [0; 256],
+            },
         }
     }
 
@@ -49,47 +69,29 @@ impl<S: Source> Counting<S> {
     pub fn into_below(self) -> S
         ensures answer { result ≡ self.below }
     {
-        let Counting {
-            below,
-            writes: _,
-            grants: _,
-            hits: _,
-        } = self;
+        let Counting { below, counts: _ } = self;
         below
     }
 
     // How many writes were accepted.
     pub fn writes(&self) -> u64
-        ensures answer { result ≡ self.now.writes }
+        ensures answer { result ≡ self.now.counts.writes }
     {
-        self.writes
+        self.counts.writes
     }
 
     // How many grants were accepted.
     pub fn grants(&self) -> u64
-        ensures answer { result ≡ self.now.grants }
+        ensures answer { result ≡ self.now.counts.grants }
     {
-        self.grants
+        self.counts.grants
     }
 
     // How many accepted writes met word `w` of segment 0, for the first 256 words; none for others.
     pub fn hits(&self, w: usize) -> Option<u64>
-        ensures answer { result ≡ (if nat_lt w 256 then Some (slice_index self.now.hits w) else None) }
+        ensures answer { result ≡ (if nat_lt w 256 then Some (slice_index self.now.counts.hits w) else None) }
     {
-        if w < 256 { Some(self.hits[w]) } else { None }
-    }
-
-    // Counts an accepted write of word `w` of segment `g`.
-    fn strike(&mut self, g: usize, w: usize)
-        ensures writes { self.new.writes ≡ more self.old.writes }
-        ensures hits { self.new.hits ≡ struck g w self.old.hits }
-        ensures grants { self.new.grants ≡ self.old.grants }
-        ensures below { self.new.below ≡ self.old.below }
-    {
-        bump(&mut self.writes);
-        if g == 0 && w < 256 {
-            bump(&mut self.hits[w]);
-        }
+        self.counts.hits.get(w).copied()
     }
 }
 
@@ -129,42 +131,28 @@ impl<S: Source> Source for Counting<S> {
         ensures offers { S.Source.offers self.new.below ≡ S.Source.offers self.old.below }
         ensures first { S.Source.first self.new.below ≡ S.Source.first self.old.below }
         ensures fault { S.Source.fault self.new.below ≡ S.Source.fault self.old.below }
-        ensures writes { self.new.writes ≡ tally result self.old.writes }
-        ensures hits { self.new.hits ≡ written result g w self.old.hits }
-        ensures grants { self.new.grants ≡ self.old.grants }
+        ensures counts { self.new.counts ≡ after_write result g w self.old.counts }
     {
-        match self.below.write(g, w, v) {
-            Ok(()) => {
-                self.strike(g, w);
-                Ok(())
-            }
-            Err(e) => Err(e),
-        }
+        self.below.write(g, w, v)?;
+        self.counts.strike(g, w);
+        Ok(())
     }
 
     fn grant(&mut self, m: u32) -> Result<u32, Refusal<S::Fault>>
         ensures outcome { Granted result m (S.Reading.segments self.old.below) (S.Reading.segments self.new.below) (S.Source.offers self.old.below) (S.Source.offers self.new.below) (S.Source.fault self.old.below) (S.Source.fault self.new.below) }
         ensures first { S.Source.first self.new.below ≡ S.Source.first self.old.below }
-        ensures grants { self.new.grants ≡ tally result self.old.grants }
-        ensures writes { self.new.writes ≡ self.old.writes }
-        ensures hits { self.new.hits ≡ self.old.hits }
+        ensures counts { self.new.counts ≡ after_grant result self.old.counts }
     {
-        match self.below.grant(m) {
-            Ok(c) => {
-                bump(&mut self.grants);
-                Ok(c)
-            }
-            Err(e) => Err(e),
-        }
+        let c = self.below.grant(m)?;
+        bump(&mut self.counts.grants);
+        Ok(c)
     }
 
     fn take_back(&mut self)
         ensures segments { S.Reading.segments self.new.below ≡ [] }
         ensures offers { S.Source.offers self.new.below ≡ S.Source.first self.old.below }
         ensures first { S.Source.first self.new.below ≡ S.Source.first self.old.below }
-        ensures writes { self.new.writes ≡ self.old.writes }
-        ensures grants { self.new.grants ≡ self.old.grants }
-        ensures hits { self.new.hits ≡ self.old.hits }
+        ensures counts { self.new.counts ≡ self.old.counts }
     {
         self.below.take_back();
     }

@@ -1,2 +1,2 @@
 -- Lemmas on the words that are granted.
-mod Totals
+pub mod Totals

@@ -1,8 +1,7 @@
 // The quota layer: the source below, as long as its segments have at most a limit of words in all.
 #![tactic(auto)]
 
-ghost use Rattle.std.specs.Prelude.{◌≡◌, ◌+◌, [], nat_le};
-ghost use Rattle.segments.specs.Calls.{Written};
+ghost use Rattle.std.specs.Prelude.{◌≡◌, ◌+◌, ◌≤◌, ◌↔◌, [], IsSome, nat_le};
 ghost use Rattle.quota.specs.Bounds.{quota_bounds};
 ghost use Rattle.quota.specs.Capped.{granted, over, quota_offers};
 ghost use Rattle.quota.specs.Faults.{quota_fault};
@@ -19,7 +18,7 @@ pub struct Quota<S: Source> {
 }
 
 // Why a quota layer refuses a grant.
-#[derive(Clone, Copy, Debug)]
+#[derive(Clone, Copy, Debug, PartialEq, Eq)]
 pub enum QuotaFault<F> {
     // the source below refuses it
     Refused { below: F },
@@ -47,41 +46,30 @@ impl<S: Source> Quota<S> {
         below
     }
 
+    // What the limit leaves beside the words granted so far and `c` more, if they stay within it. Segments are asked by number: a source has
+    // no list of them.
+    fn left(&self, c: u32) -> Option<u64>
+        ensures answer { IsSome result ↔ (granted (S.Reading.segments self.now.below) + c ≤ self.now.limit) }
+    {
+        let mut left = self.limit.checked_sub(u64::from(c))?;
+        for g in 0..self.below.count() {
+            left = left.checked_sub(self.below.length(g).unwrap_or(0) as u64)?;
+        }
+        Some(left)
+    }
+
     // Whether the words granted so far and `c` more stay within the limit.
     fn admits(&self, c: u32) -> bool
         ensures answer { result ≡ nat_le (granted (S.Reading.segments self.now.below) + c) self.now.limit }
     {
-        let Some(mut left) = self.limit.checked_sub(c as u64) else {
-            return false;
-        };
-        for g in 0..self.below.count() {
-            let n = self.below.length(g).unwrap_or(0) as u64;
-            if left < n {
-                return false;
-            }
-            left -= n;
-        }
-        true
-    }
-
-    // Puts `v` into word `w` of segment `g` below, which leaves as many words granted.
-    fn put(&mut self, g: usize, w: usize, v: u64) -> Result<(), Outside>
-        ensures outcome { Written result (S.Reading.segments self.old.below) (S.Reading.segments self.new.below) g w v }
-        ensures granted { granted (S.Reading.segments self.new.below) ≡ granted (S.Reading.segments self.old.below) }
-        ensures offers { S.Source.offers self.new.below ≡ S.Source.offers self.old.below }
-        ensures first { S.Source.first self.new.below ≡ S.Source.first self.old.below }
-        ensures fault { S.Source.fault self.new.below ≡ S.Source.fault self.old.below }
-        ensures limit { self.new.limit ≡ self.old.limit }
-    {
-        self.below.write(g, w, v)
+        self.left(c).is_some()
     }
 
     // The capacity that is offered below for `m` words, if it would pass the limit.
     fn passing(&self, m: u32) -> Option<u32>
         ensures answer { result ≡ over (granted (S.Reading.segments self.now.below)) self.now.limit (S.Source.offers self.now.below m) }
     {
-        let c = self.below.offer(m)?;
-        if self.admits(c) { None } else { Some(c) }
+        self.below.offer(m).filter(|c| !self.admits(*c))
     }
 }
 
@@ -113,12 +101,12 @@ impl<S: Source> Source for Quota<S> {
     ghost bounds = { λ q. quota_bounds (S.Reading.segments q.below) q.limit (S.Source.offers q.below) (S.Source.bounds q.below) };
 
     fn offer(&self, m: u32) -> Option<u32> {
-        let c = self.below.offer(m)?;
-        if self.admits(c) { Some(c) } else { None }
+        self.below.offer(m).filter(|c| self.admits(*c))
     }
 
+    #[tactic(auto, using(crate::proofs::Totals::written_granted))]
     fn write(&mut self, g: usize, w: usize, v: u64) -> Result<(), Outside> {
-        self.put(g, w, v)
+        self.below.write(g, w, v)
     }
 
     fn grant(&mut self, m: u32) -> Result<u32, Refusal<QuotaFault<S::Fault>>> {
@@ -128,13 +116,10 @@ impl<S: Source> Source for Quota<S> {
                 fault: QuotaFault::Over { capacity },
             });
         }
-        match self.below.grant(m) {
-            Ok(c) => Ok(c),
-            Err(Refusal { minimum, fault }) => Err(Refusal {
-                minimum,
-                fault: QuotaFault::Refused { below: fault },
-            }),
-        }
+        self.below.grant(m).map_err(|Refusal { minimum, fault }| Refusal {
+            minimum,
+            fault: QuotaFault::Refused { below: fault },
+        })
     }
 
     fn take_back(&mut self) {

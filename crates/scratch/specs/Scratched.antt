@@ -1,10 +1,11 @@
 -- The segments and the offers of a scratch layer, from those of the source below.
-use Rattle.std.specs.Prelude.{ℕ, Bool, true, false, cond, ◌&&◌, List, ◌∷◌, Some, Option, ◌==◌, nat_le}
+use Rattle.std.specs.Prelude.{ℕ, Bool, cond, ◌&&◌, List, ◌∷◌, Some, None, Option, ◌==◌, nat_le}
+use Rattle.scratch.specs.declared.Own.{Own}
 
 -- once they are granted, the own words stand before the segments below
-abbrev pub scratch_segments : Bool → List ℕ → List (List ℕ) → List (List ℕ)
-scratch_segments true own m = own ∷ m
-scratch_segments false own m = m
+abbrev pub scratch_segments : Option Own → List (List ℕ) → List (List ℕ)
+scratch_segments (Some own) m = own.words ∷ m
+scratch_segments None m = m
 
 -- the own words serve for up to 256, while there is no segment in the layer and below it
 abbrev pub scratch_serves : (count m : ℕ) → Bool

@@ -1,8 +1,7 @@
 // The scratch layer: 256 words of its own, granted first, and then whatever the source below grants.
 #![tactic(auto)]
 
-ghost use Rattle.std.specs.Prelude.{◌≡◌, true, false, [], length, replicate};
-ghost use Rattle.segments.specs.Memory.{with_zeros};
+ghost use Rattle.std.specs.Prelude.{◌≡◌, [], length};
 ghost use Rattle.scratch.specs.Bounds.{scratch_bounds};
 ghost use Rattle.scratch.specs.Faults.{scratch_fault};
 ghost use Rattle.scratch.specs.Scratched.{scratch_segments, scratch_serves, scratch_offers};
@@ -11,36 +10,21 @@ use segments::reading::Reading;
 use segments::refusal::{Outside, Refusal};
 use segments::source::Source;
 
-// The words that a scratch layer holds itself, and whether they are granted.
+// The words that a scratch layer holds itself.
 #[derive(Drop)]
 struct Own {
     words: [u64; 256],
-    used: bool,
-    ghost size: { length words ≡ 256 },
-}
-
-impl Own {
-    // Zero words.
-    fn new(used: bool) -> Own
-        ensures words { result.words ≡ replicate 256 0 }
-        ensures used { result.used ≡ used }
-    {
-        Own {
-            words: [0; 256],
-            used,
-        }
-    }
 }
 
 // A source below, and 256 words that are the first segment if they are granted.
 #[derive(Drop)]
 pub struct Scratch<S: Source> {
-    own: Own,
+    own: Option<Own>,
     below: S,
 }
 
 // Why a scratch layer refuses a grant: its own words do not serve, and the source below refuses it.
-#[derive(Clone, Copy, Debug)]
+#[derive(Clone, Copy, Debug, PartialEq, Eq)]
 pub struct ScratchFault<F> {
     pub below: F,
 }
@@ -48,16 +32,13 @@ pub struct ScratchFault<F> {
 impl<S: Source> Scratch<S> {
     // A scratch layer over `below`, whose segments are all taken back first.
     pub fn new(mut below: S) -> Scratch<S>
-        ensures segments { scratch_segments result.own.used result.own.words (S.Reading.segments result.below) ≡ [] }
-        ensures offers { scratch_offers (length (scratch_segments result.own.used result.own.words (S.Reading.segments result.below))) (S.Source.offers result.below) ≡ scratch_offers 0 (S.Source.first below) }
+        ensures segments { scratch_segments result.own (S.Reading.segments result.below) ≡ [] }
+        ensures offers { scratch_offers (length (scratch_segments result.own (S.Reading.segments result.below))) (S.Source.offers result.below) ≡ scratch_offers 0 (S.Source.first below) }
         ensures first { scratch_offers 0 (S.Source.first result.below) ≡ scratch_offers 0 (S.Source.first below) }
         ensures below { S.Source.first result.below ≡ S.Source.first below }
     {
         below.take_back();
-        Scratch {
-            own: Own::new(false),
-            below,
-        }
+        Scratch { own: None, below }
     }
 
     // The source below.
@@ -70,27 +51,18 @@ impl<S: Source> Scratch<S> {
 
     // Whether the own words serve for a grant of `m` words.
     fn serves(&self, m: u32) -> bool
-        ensures answer { result ≡ scratch_serves (length (scratch_segments self.now.own.used self.now.own.words (S.Reading.segments self.now.below))) m }
+        ensures answer { result ≡ scratch_serves (length (scratch_segments self.now.own (S.Reading.segments self.now.below))) m }
     {
-        self.count() == 0 && 1 <= m && m <= 256
-    }
-
-    // Grants the own words, all zero.
-    fn open(&mut self)
-        requires empty { length (scratch_segments self.old.own.used self.old.own.words (S.Reading.segments self.old.below)) ≡ 0 }
-        ensures segments { scratch_segments self.new.own.used self.new.own.words (S.Reading.segments self.new.below) ≡ with_zeros (scratch_segments self.old.own.used self.old.own.words (S.Reading.segments self.old.below)) 256 }
-        ensures below { self.new.below ≡ self.old.below }
-    {
-        self.own = Own::new(true);
+        self.count() == 0 && (1..=256).contains(&m)
     }
 }
 
 impl<S: Source> Reading for Scratch<S> {
-    ghost segments = { λ s. scratch_segments s.own.used s.own.words (S.Reading.segments s.below) };
+    ghost segments = { λ s. scratch_segments s.own (S.Reading.segments s.below) };
 
     fn count(&self) -> usize {
         let n = self.below.count();
-        if self.own.used {
+        if self.own.is_some() {
             n.saturating_add(1)
         } else {
             n
@@ -98,26 +70,18 @@ impl<S: Source> Reading for Scratch<S> {
     }
 
     fn length(&self, g: usize) -> Option<usize> {
-        if !self.own.used {
-            return self.below.length(g);
+        match &self.own {
+            Some(own) if g == 0 => Some(own.words.as_slice().len()),
+            Some(_) => self.below.length(g - 1),
+            None => self.below.length(g),
         }
-        if g > 0 {
-            return self.below.length(g - 1);
-        }
-        Some(256)
     }
 
     fn read(&self, g: usize, w: usize) -> Option<u64> {
-        if !self.own.used {
-            return self.below.read(g, w);
-        }
-        if g > 0 {
-            return self.below.read(g - 1, w);
-        }
-        if w < 256 {
-            Some(self.own.words[w])
-        } else {
-            None
+        match &self.own {
+            Some(own) if g == 0 => own.words.get(w).copied(),
+            Some(_) => self.below.read(g - 1, w),
+            None => self.below.read(g, w),
         }
     }
 }
@@ -135,50 +99,41 @@ impl<S: Source> Source for Scratch<S> {
 
     fn offer(&self, m: u32) -> Option<u32> {
         if self.serves(m) {
-            return Some(256);
+            Some(256)
+        } else {
+            self.below.offer(m)
         }
-        self.below.offer(m)
     }
 
     fn write(&mut self, g: usize, w: usize, v: u64) -> Result<(), Outside> {
-        if !self.own.used {
-            return self.below.write(g, w, v);
+        let outside = Outside {
+            segment: g,
+            word: w,
+        };
+        match &mut self.own {
+            Some(own) if g == 0 => {
+                own.words.get(w).ok_or(outside)?;
+                own.words.as_mut_slice()[w] = v;
+                Ok(())
+            }
+            Some(_) => self.below.write(g - 1, w, v).map_err(|_| outside),
+            None => self.below.write(g, w, v),
         }
-        if g > 0 {
-            return match self.below.write(g - 1, w, v) {
-                Ok(()) => Ok(()),
-                Err(_) => Err(Outside {
-                    segment: g,
-                    word: w,
-                }),
-            };
-        }
-        if w >= 256 {
-            return Err(Outside {
-                segment: g,
-                word: w,
-            });
-        }
-        self.own.words[w] = v;
-        Ok(())
     }
 
     fn grant(&mut self, m: u32) -> Result<u32, Refusal<ScratchFault<S::Fault>>> {
         if self.serves(m) {
-            self.open();
+            self.own = Some(Own { words: [0; 256] });
             return Ok(256);
         }
-        match self.below.grant(m) {
-            Ok(c) => Ok(c),
-            Err(Refusal { minimum, fault }) => Err(Refusal {
-                minimum,
-                fault: ScratchFault { below: fault },
-            }),
-        }
+        self.below.grant(m).map_err(|Refusal { minimum, fault }| Refusal {
+            minimum,
+            fault: ScratchFault { below: fault },
+        })
     }
 
     fn take_back(&mut self) {
-        self.own.used = false;
+        self.own = None;
         self.below.take_back();
     }
 }

@@ -12,9 +12,9 @@ use word_slab::Slab;
 
 // What is offered for each of some minima, and what a grant answers.
 fn grants<S: Source, R: Print>(rt: &R, s: &mut S, minima: &[u32]) -> io::Result<()> {
-    for m in minima {
-        let offer = s.offer(*m);
-        let granted = s.grant(*m);
+    for &m in minima {
+        let offer = s.offer(m);
+        let granted = s.grant(m);
         println!(rt; "  {m}: offer {offer:?}, grant {granted:?}")?;
     }
     Ok(())
@@ -22,13 +22,9 @@ fn grants<S: Source, R: Print>(rt: &R, s: &mut S, minima: &[u32]) -> io::Result<
 
 // How many words of segment `g` are not zero.
 fn dirty<S: Reading>(s: &S, g: usize) -> usize {
-    let mut n: usize = 0;
-    for w in 0..s.length(g).unwrap_or(0) {
-        if s.read(g, w).unwrap_or(0) != 0 {
-            n = n.saturating_add(1);
-        }
-    }
-    n
+    (0..s.length(g).unwrap_or(0))
+        .filter(|w| s.read(g, *w).is_some_and(|x| x != 0))
+        .count()
 }
 
 // Each segment's length, and how many of its words are not zero.

@@ -1,113 +1,106 @@
--- Segments cut at rising marks: how long each is, which of the words it has, and what a write among the words makes of it.
-use Rattle.std.proofs.Common.{◌≡◌, ℕ, ◌+◌, ◌-◌, ◌^◌, ◌<◌, ◌≤◌, ◌≢◌, List, [], length, get_or, take, drop, set, sym, ap, ◌∙◌, ⊎_elim, arith}
+-- Segments cut one after another: how long each is, which of the words it has, and what a write among the words makes of it.
+use Rattle.std.proofs.Common.{◌≡◌, ℕ, zero, suc, ◌+◌, ◌-◌, ◌^◌, ◌<◌, ◌≤◌, List, [], ◌∷◌, length, get_or, take, drop, set, refl, ap, ◌∙◌, ap₂, arith}
 use lib.Seq.{take-set-lt}
-use Rattle.std.proofs.lemmas.List.FromFn.{length-map-range_with_len, get_or-map-range_with_len}
 use Rattle.std.proofs.lemmas.List.Edits.{length-between, get_or-between}
-use Rattle.std.proofs.lemmas.List.{ext_get_or, length-set, get_or-set_same, get_or-set_other, take-set-le, drop-set-lt, drop-set-add}
-use Rattle.std.proofs.lemmas.Bool.{cases_eq, cases_order}
+use Rattle.std.proofs.lemmas.List.{get_or_default, take-set-le, drop-set-lt, drop-set-add}
 use Rattle.segments.specs.Memory.{segment, put}
 use Rattle.segments.proofs.Places.{segment_past, length_at_there, length_at_missing, word_at_there, word_at_missing}
-use Rattle.word_slab.specs.Cuts.{part, cuts, Lies, Lacks, Spans, Missing}
+use Rattle.word_slab.specs.Cuts.{Rises, begin, cuts_from, cuts, Lies, Lacks, Spans, Missing}
 
--- the marks of the first n segments never fall
-abbrev pub Rising : List ℕ → ℕ → Type 0
-Rising k n = (a b : ℕ) → a ≤ b → b ≤ n → get_or k a 0 ≤ get_or k b 0
+pub rises_tail : (f e : ℕ) (es : List ℕ) (n : ℕ) → Rises f (e ∷ es) n → Rises e es n
+rises_tail f e es n r = λ g h. r (suc g) (omega arith)
 
-module _ (w k : List ℕ) (n : ℕ) (rising : Rising k n) (inside : get_or k n 0 ≤ length w) where
-  pub cuts_length : length (cuts w k n) ≡ n
-  cuts_length = length-map-range_with_len (part w k) 0 n
+-- segment g begins between the first place and the number of words
+pub rises_begin : (f : ℕ) (es : List ℕ) (n g : ℕ) → f ≤ n → Rises f es n → g ≤ length es → (f ≤ get_or (f ∷ es) g 0) × (get_or (f ∷ es) g 0 ≤ n)
+rises_begin f es n zero l r h = (omega arith, l)
+rises_begin f [] n (suc g) l r h = absurd (omega arith)
+rises_begin f (e ∷ es) n (suc g) l r h =
+    let p = r zero (omega arith) in
+    let q = rises_begin e es n g p.1 (rises_tail f e es n r) (omega arith) in
+    (omega arith, q.1)
 
-  pub cuts_segment : (g : ℕ) → g < n → segment (cuts w k n) g ≡ part w k g
-  cuts_segment g h = get_or-map-range_with_len (part w k) 0 n g g [] h (omega arith)
+pub length-cuts_from : (w : List ℕ) (f : ℕ) (es : List ℕ) → length (cuts_from w f es) ≡ length es
+length-cuts_from w f [] = refl
+length-cuts_from w f (e ∷ es) = let q = length-cuts_from w e es in omega arith
 
-  mark_end : (g : ℕ) → g < n → get_or k (g + 1) 0 ≤ length w
-  mark_end g h = let r = rising (g + 1) n (omega arith) (omega arith) in omega arith
+pub cuts_length : (w es : List ℕ) → length (cuts w es) ≡ length es
+cuts_length w es = length-cuts_from w 0 es
 
-  segment_length : (g : ℕ) → g < n → length (segment (cuts w k n) g) ≡ get_or k (g + 1) 0 - get_or k g 0
-  segment_length g h = ap length (cuts_segment g h) ∙ length-between w (get_or k g 0) (get_or k (g + 1) 0) (mark_end g h)
+segment_is : (w : List ℕ) (f : ℕ) (es : List ℕ) (g : ℕ) → g < length es → segment (cuts_from w f es) g ≡ take (get_or es g 0 - get_or (f ∷ es) g 0) (drop (get_or (f ∷ es) g 0) w)
+segment_is w f [] g h = absurd (omega arith)
+segment_is w f (e ∷ es) zero h = refl
+segment_is w f (e ∷ es) (suc g) h = segment_is w e es g (omega arith)
 
-  segment_word : (g i : ℕ) → g < n → i < get_or k (g + 1) 0 - get_or k g 0 → get_or (segment (cuts w k n) g) i 0 ≡ get_or w (get_or k g 0 + i) 0
-  segment_word g i h l = ap (λ s. get_or s i 0) (cuts_segment g h) ∙ get_or-between w (get_or k g 0) (get_or k (g + 1) 0) i 0 (omega arith)
+-- a write before the first segment
+set_before : (w : List ℕ) (f : ℕ) (es : List ℕ) (n p v : ℕ) → Rises f es n → p < f → cuts_from (set w p v) f es ≡ cuts_from w f es
+set_before w f [] n p v r h = refl
+set_before w f (e ∷ es) n p v r h =
+    let q = r zero (omega arith) in
+    ap₂ (λ x y. x ∷ y) (ap (take (e - f)) (drop-set-lt f w p v h)) (set_before w e es n p v (rises_tail f e es n r) (omega arith))
 
-  part_set_same : (g i v : ℕ) → g < n → i < get_or k (g + 1) 0 - get_or k g 0 → part (set w (get_or k g 0 + i) v) k g ≡ set (part w k g) i v
-  part_set_same g i v h l =
-      let d = get_or k (g + 1) 0 - get_or k g 0 in
-      ap (take d) (drop-set-add (get_or k g 0) w i v) ∙ take-set-lt d (drop (get_or k g 0) w) i v l
+-- a write behind a segment
+set_behind : (w : List ℕ) (f e p v : ℕ) → f ≤ e → e ≤ p → take (e - f) (drop f (set w p v)) ≡ take (e - f) (drop f w)
+set_behind w f e p v h k =
+    let q : p ≡ f + (p - f) = omega arith in
+    ap (λ x. take (e - f) (drop f (set w x v))) q ∙ ap (take (e - f)) (drop-set-add f w (p - f) v) ∙ take-set-le (e - f) (drop f w) (p - f) v (omega arith)
 
-  part_set_before : (j p v : ℕ) → p < get_or k j 0 → part (set w p v) k j ≡ part w k j
-  part_set_before j p v h = ap (take (get_or k (j + 1) 0 - get_or k j 0)) (drop-set-lt (get_or k j 0) w p v h)
+-- a write at the place of a word
+put_at : (w : List ℕ) (f : ℕ) (es : List ℕ) (n g i v : ℕ) → Rises f es n → g < length es → i < get_or es g 0 - get_or (f ∷ es) g 0 → cuts_from (set w (get_or (f ∷ es) g 0 + i) v) f es ≡ put (cuts_from w f es) g i v
+put_at w f [] n g i v r h l = absurd (omega arith)
+put_at w f (e ∷ es) n zero i v r h l =
+    ap₂ (λ x y. x ∷ y) (ap (take (e - f)) (drop-set-add f w i v) ∙ take-set-lt (e - f) (drop f w) i v l) (set_before w e es n (f + i) v (rises_tail f e es n r) (omega arith))
+put_at w f (e ∷ es) n (suc g) i v r h l =
+    let p = r zero (omega arith) in
+    let t = rises_tail f e es n r in
+    let q = rises_begin e es n g p.1 t (omega arith) in
+    ap₂ (λ x y. x ∷ y) (set_behind w f e (get_or (e ∷ es) g 0 + i) v p.0 (omega arith)) (put_at w e es n g i v t (omega arith) l)
 
-  part_set_after : (j p v : ℕ) → get_or k j 0 ≤ get_or k (j + 1) 0 → get_or k (j + 1) 0 ≤ p → part (set w p v) k j ≡ part w k j
-  part_set_after j p v r h =
-      let b = get_or k j 0 in
-      let d = get_or k (j + 1) 0 - b in
-      let e : p ≡ b + (p - b) = omega arith in
-      ap (λ q. take d (drop b (set w q v))) e ∙ ap (take d) (drop-set-add b w (p - b) v) ∙ take-set-le d (drop b w) (p - b) v (omega arith)
+module _ (w es : List ℕ) (rising : Rises 0 es (length w)) where
+  inside : (g : ℕ) → g < length es → get_or es g 0 ≤ length w
+  inside g h = (rising g h).1
 
-  part_set_other : (g i v j : ℕ) → g < n → i < get_or k (g + 1) 0 - get_or k g 0 → j < n → j ≢ g → part (set w (get_or k g 0 + i) v) k j ≡ part w k j
-  part_set_other g i v j h l hj d = ⊎_elim (λ e. absurd (d e)) (⊎_elim below above) (cases_order j g)
-    where
-      below : j < g → part (set w (get_or k g 0 + i) v) k j ≡ part w k j
-      below q = let r = rising (j + 1) g (omega arith) (omega arith) in let t = rising j (j + 1) (omega arith) (omega arith) in part_set_after j (get_or k g 0 + i) v t (omega arith)
+  segment_length : (g : ℕ) → g < length es → length (segment (cuts w es) g) ≡ get_or es g 0 - begin es g
+  segment_length g h = ap length (segment_is w 0 es g h) ∙ length-between w (begin es g) (get_or es g 0) (inside g h)
 
-      above : g < j → part (set w (get_or k g 0 + i) v) k j ≡ part w k j
-      above q = let r = rising (g + 1) j (omega arith) (omega arith) in part_set_before j (get_or k g 0 + i) v (omega arith)
+  segment_word : (g i : ℕ) → g < length es → i < get_or es g 0 - begin es g → get_or (segment (cuts w es) g) i 0 ≡ get_or w (begin es g + i) 0
+  segment_word g i h l = ap (λ s. get_or s i 0) (segment_is w 0 es g h) ∙ get_or-between w (begin es g) (get_or es g 0) i 0 (omega arith)
 
-  -- a write at its place among the words
-  cuts_put : (g i v : ℕ) → g < n → i < get_or k (g + 1) 0 - get_or k g 0 → cuts (set w (get_or k g 0 + i) v) k n ≡ put (cuts w k n) g i v
-  cuts_put g i v h l = ext_get_or [] (cuts w' k n) (put (cuts w k n) g i v) (lens ∙ sym (length-set (cuts w k n) g s ∙ cuts_length)) (λ j q. at j (omega (arith, lens)))
-    where
-      w' : List ℕ
-      w' = set w (get_or k g 0 + i) v
-
-      s : List ℕ
-      s = set (segment (cuts w k n) g) i v
-
-      lens : length (cuts w' k n) ≡ n
-      lens = length-map-range_with_len (part w' k) 0 n
-
-      same : get_or (cuts w' k n) g [] ≡ get_or (set (cuts w k n) g s) g []
-      same =
-          get_or-map-range_with_len (part w' k) 0 n g g [] h (omega arith) ∙ part_set_same g i v h l ∙ ap (λ x. set x i v) (sym (cuts_segment g h))
-          ∙ sym (get_or-set_same (cuts w k n) g s [] (omega (arith, cuts_length)))
-
-      at : (j : ℕ) → j < n → get_or (cuts w' k n) j [] ≡ get_or (set (cuts w k n) g s) j []
-      at j q = ⊎_elim
-          (λ (e : j ≡ g). rw e same)
-          (λ (d : j ≢ g). get_or-map-range_with_len (part w' k) 0 n j j [] q (omega arith) ∙ part_set_other g i v j h l q d ∙ sym (cuts_segment j q) ∙ sym (get_or-set_other (cuts w k n) g j s [] d))
-          (cases_eq j g)
-
-  -- where word i of segment g lies
-  lies : (g i : ℕ) → g < n → i < get_or k (g + 1) 0 - get_or k g 0 → Lies w k n g i (get_or k g 0 + i)
+  lies : (g i : ℕ) → g < length es → i < get_or es g 0 - begin es g → Lies w es g i (begin es g + i)
   lies g i h l =
       let e = segment_length g h in
-      let f = mark_end g h in
+      let f = inside g h in
       record {
         there = omega arith;
         within = omega arith;
-        shows = word_at_there (cuts w k n) g i (get_or w (get_or k g 0 + i) 0) (omega arith) (segment_word g i h l);
-        replaces = λ v. cuts_put g i v h l;
+        shows = word_at_there (cuts w es) g i (get_or w (begin es g + i) 0) (omega arith) (segment_word g i h l);
+        replaces = λ v. put_at w 0 es (length w) g i v rising h l;
       }
 
-  lacks : (g i : ℕ) → length (segment (cuts w k n) g) ≤ i → Lacks w k n g i
-  lacks g i h = record { beyond = h; shows = word_at_missing (cuts w k n) g i h }
+  lacks : (g i : ℕ) → length (segment (cuts w es) g) ≤ i → Lacks w es g i
+  lacks g i h = record { beyond = h; shows = word_at_missing (cuts w es) g i h }
 
-  -- segment g is there
-  pub spans : (g : ℕ) → g < n → get_or k (g + 1) 0 < 2 ^ 64 → Spans w k n g (get_or k g 0) (get_or k (g + 1) 0 - get_or k g 0)
-  spans g h b =
+  spans_at : (g : ℕ) → g < length es → get_or es g 0 < 2 ^ 64 → Spans w es g (begin es g) (get_or es g 0 - begin es g)
+  spans_at g h b =
       let e = segment_length g h in
-      let r = rising g (g + 1) (omega arith) (omega arith) in
-      let f = cuts_length in
+      let r = rising g h in
+      let f = cuts_length w es in
       record {
-        shows = length_at_there (cuts w k n) g (get_or k (g + 1) 0 - get_or k g 0) (omega arith) e;
+        shows = length_at_there (cuts w es) g (get_or es g 0 - begin es g) (omega arith) e;
         counts = omega arith;
         words_there = λ i l. lies g i h l;
         no_more = λ i l. lacks g i (omega arith);
       }
 
+  -- segment g is there, with what is read of its end
+  pub spans : (g end from : ℕ) → g < length es → end ≡ get_or es g end → end < 2 ^ 64 → from ≡ begin es g → Spans w es g from (end - from)
+  spans g end from h r b e =
+      let t : end ≡ get_or es g 0 = r ∙ get_or_default es g end 0 h in
+      let l : get_or es g 0 < 2 ^ 64 = omega arith in
+      rw (t, e) (spans_at g h l)
+
   -- there is no segment g
-  pub missing : (g : ℕ) → n ≤ g → Missing w k n g
+  pub missing : (g : ℕ) → length es ≤ g → Missing w es g
   missing g h =
-      let f = cuts_length in
-      let z = segment_past (cuts w k n) g (omega arith) in
-      record { shows = length_at_missing (cuts w k n) g (omega arith); no_words = λ i. lacks g i (omega arith) }
+      let f = cuts_length w es in
+      let z = segment_past (cuts w es) g (omega arith) in
+      record { shows = length_at_missing (cuts w es) g (omega arith); no_words = λ i. lacks g i (omega arith) }

@@ -1,2 +1,0 @@
--- Lemmas on the first pages of a list.
-pub mod Rows

@@ -1,2 +1,0 @@
--- Lemmas on a scratch layer's own words.
-mod Opened
