@@ -1,11 +1,11 @@
 -- Words set to zero one after another.
-use Rattle.std.proofs.Common.{◌≡◌, ℕ, zero, suc, ◌+◌, ◌<◌, ◌≤◌, ◌≢◌, List, [], ◌∷◌, map, length, get_or, set, Ok, Err, Result, sym, refl, ap, ◌∙◌, ⊎_elim, add-one, arith}
-use Rattle.std.proofs.lemmas.List.{length-set, get_or-set_same, get_or-set_other, get_or_past, set-get_or, set_past}
-use Rattle.std.proofs.lemmas.Bool.{cases_lt, cases_eq}
+use Rattle.std.proofs.Common.{◌≡◌, ℕ, zero, suc, ◌+◌, ◌-◌, ◌≤◌, ◌≢◌, List, [], ◌∷◌, map, length, get_or, set, Ok, Err, Result, sym, refl, ap, ◌∙◌, ⊎_elim, arith}
+use Rattle.std.proofs.lemmas.List.{length-set, get_or-set_other, set-get_or, set_past}
+use Rattle.std.proofs.Math.Seq.{map-set_same}
+use Rattle.std.proofs.lemmas.Bool.{cases_eq}
 use Rattle.segments.specs.declared.refusal.Outside.{Outside}
 use Rattle.segments.specs.Memory.{segment, word, put}
 use Rattle.segments.specs.Calls.{Written}
-use Rattle.segments.proofs.Places.{segment_past}
 use Rattle.arena.specs.Zeroed.{zeroed_words, Zeroed}
 
 -- ## One word
@@ -17,14 +17,9 @@ written_put (Err y) m n g w v h =
     h.memory ∙ (sym (set-get_or m g []) ∙ ap (λ (s : List ℕ). set m g s) (sym (set_past (segment m g) w v h.beyond)))
 
 put_segment : (m : List (List ℕ)) (g w v : ℕ) → segment (put m g w v) g ≡ set (segment m g) w v
-put_segment m g w v =
-    ⊎_elim
-    (λ (h : g < length m). get_or-set_same m g (set (segment m g) w v) [] h)
-    (λ (h : length m ≤ g).
-    let e : segment m g ≡ [] = get_or_past m g [] h in
-    let k : length (segment m g) ≤ w = let z = segment_past m g h in omega arith in
-    ap (λ (l : List (List ℕ)). segment l g) (set_past m g (set (segment m g) w v) h) ∙ sym (set_past (segment m g) w v k))
-    (cases_lt g (length m))
+put_segment [] g w v = refl
+put_segment (s ∷ m) zero w v = refl
+put_segment (s ∷ m) (suc g) w v = put_segment m g w v
 
 put_other : (m : List (List ℕ)) (g w v x : ℕ) → x ≢ g → segment (put m g w v) x ≡ segment m x
 put_other m g w v x n = get_or-set_other m g x (set (segment m g) w v) [] n
@@ -36,21 +31,16 @@ put_lengths m g w v x =
     (λ (n : x ≢ g). ap length (put_other m g w v x n))
     (cases_eq x g)
 
-sizes_set : (m : List (List ℕ)) (g : ℕ) (s : List ℕ) → length s ≡ length (get_or m g []) → map length (set m g s) ≡ map length m
-sizes_set [] g s e = refl
-sizes_set (x ∷ m) zero s e = ap (λ (n : ℕ). n ∷ map length m) e
-sizes_set (x ∷ m) (suc g) s e = ap (λ (l : List ℕ). length x ∷ l) (sizes_set m g s e)
-
 pub put_sizes : (m : List (List ℕ)) (g w v : ℕ) → map length (put m g w v) ≡ map length m
-put_sizes m g w v = sizes_set m g (set (segment m g) w v) (length-set (segment m g) w v)
+put_sizes m g w v = map-set_same length m g (set (segment m g) w v) [] (length-set (segment m g) w v)
+
+zero_there : (s : List ℕ) (w : ℕ) → get_or (set s w 0) w 0 ≡ 0
+zero_there [] w = refl
+zero_there (x ∷ s) zero = refl
+zero_there (x ∷ s) (suc w) = zero_there s w
 
 put_zero : (m : List (List ℕ)) (g w : ℕ) → word (put m g w 0) g w ≡ 0
-put_zero m g w =
-    ap (λ (s : List ℕ). get_or s w 0) (put_segment m g w 0) ∙
-    ⊎_elim
-    (λ (h : w < length (segment m g)). get_or-set_same (segment m g) w 0 0 h)
-    (λ (h : length (segment m g) ≤ w). get_or_past (set (segment m g) w 0) w 0 (let l = length-set (segment m g) w 0 in omega arith))
-    (cases_lt w (length (segment m g)))
+put_zero m g w = ap (λ (s : List ℕ). get_or s w 0) (put_segment m g w 0) ∙ zero_there (segment m g) w
 
 put_else : (m : List (List ℕ)) (g w v x y : ℕ) → (x ≡ g → y ≡ w → ⊥) → word (put m g w v) x y ≡ word m x y
 put_else m g w v x y n =
@@ -61,8 +51,12 @@ put_else m g w v x y n =
 
 -- ## Many
 
-pub zeroed_more : (m : List (List ℕ)) (g from n : ℕ) → put (zeroed_words m g from n) g (from + n) 0 ≡ zeroed_words m g from (n + 1)
-zeroed_more m g from n = ap (zeroed_words m g from) (sym (add-one n))
+-- the words below w are zero, and word w too
+pub zeroed_more : (m : List (List ℕ)) (g from w : ℕ) → from ≤ w → put (zeroed_words m g from (w - from)) g w 0 ≡ zeroed_words m g from (w + 1 - from)
+zeroed_more m g from w h =
+    let e : w + 1 - from ≡ suc (w - from) = omega arith in
+    let k : from + (w - from) ≡ w = omega arith in
+    rw e (ap (λ (i : ℕ). put (zeroed_words m g from (w - from)) g i 0) (sym k))
 
 pub zeroed_is : (m : List (List ℕ)) (g from n : ℕ) → Zeroed m (zeroed_words m g from n) g from n
 zeroed_is m g from zero = record { inside = λ w l h. absurd (omega arith); elsewhere = λ x w n. refl; lengths = λ x. refl }
@@ -83,3 +77,6 @@ zeroed_is m g from (suc n) =
 pub zeroed_sizes : (m : List (List ℕ)) (g from n : ℕ) → map length (zeroed_words m g from n) ≡ map length m
 zeroed_sizes m g from zero = refl
 zeroed_sizes m g from (suc n) = put_sizes (zeroed_words m g from n) g (from + n) 0 ∙ zeroed_sizes m g from n
+
+pub zeroed_at : (m m' : List (List ℕ)) (g from n count : ℕ) → n ≡ count → m' ≡ zeroed_words m g from n → Zeroed m m' g from count
+zeroed_at m m' g from n count e is = rw (is, e) (zeroed_is m g from count)

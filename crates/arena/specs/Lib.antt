@@ -3,3 +3,4 @@ pub mod Faults
 pub mod Space
 pub mod Zeroed
 pub mod Rule
+pub mod Steady

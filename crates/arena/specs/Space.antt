@@ -1,6 +1,7 @@
 -- What an arena means, and what an allocation answers and leaves.
 use Rattle.std.specs.Prelude.{◌≡◌, ℕ, ◌+◌, ◌<◌, ◌≤◌, min, true, false, ◌⊎◌, List, [], ◌∷◌, ◌++◌, length, Some, None, Ok, Err, Option, Result}
 use Rattle.segments.specs.Memory.{with_zeros}
+use Rattle.segments.specs.Meaning.{Meaning}
 use Rattle.table.specs.Segments.{fresh, more, Table, allocated_in, take}
 use Rattle.table.specs.Meaning.{table_of, has_room, first_words, with_first_words}
 use Rattle.arena.specs.declared.BuilderArena.{BuilderArena}
@@ -15,11 +16,11 @@ pub record Space : Type 0 where
   pub table : Table
 
 -- by the meaning of its source
-abbrev pub space_of : {X : Type 0} → (X → List (List ℕ)) → (X → ℕ → Option ℕ) → (X → ℕ → Option ℕ) → BuilderArena X → Space
-space_of segments offers first a = record {
-  segments = segments a.source;
-  offers = offers a.source;
-  first_offers = first a.source;
+abbrev pub space_of : {X F : Type 0} → Meaning X F → BuilderArena X → Space
+space_of M a = record {
+  segments = M.segments a.source;
+  offers = M.offers a.source;
+  first_offers = M.first a.source;
   table = table_of a.table;
 }
 

@@ -8,7 +8,7 @@ use segments::source::Source;
 impl<S: Source> BuilderArena<S> {
     // Takes `n` words anywhere, and answers their segment and the first of them.
     pub fn allocate_anywhere(&mut self, n: u32) -> Result<(usize, u32), NoSpace<S::Fault>>
-        ensures outcome { Anywhere n (S.Source.fault self.old.source) (space_of S.Reading.segments S.Source.offers S.Source.first self.old) result (space_of S.Reading.segments S.Source.offers S.Source.first self.new) }
+        ensures outcome { Anywhere n (S.Source.fault self.old.source) (space_of S.Source self.old) result (space_of S.Source self.new) }
     {
         if let Some(p) = self.table.allocate_first(n) {
             return Ok(p);
@@ -21,8 +21,8 @@ impl<S: Source> BuilderArena<S> {
             });
         }
         let c = self.source.grant(n)?;
-        let _ = self.table.add(c);
-        let _ = self.table.allocate(g, n);
-        Ok((g, 0))
+        self.table.add(c).unwrap();
+        let w = self.table.allocate(g, n).unwrap();
+        Ok((g, w))
     }
 }

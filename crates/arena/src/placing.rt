@@ -9,7 +9,7 @@ impl<S: Source> BuilderArena<S> {
     // Takes `n` words for an object whose slot is in segment `g`: there, or anywhere with a landing pad in front. Answers the
     // object's segment and first word; where that is another segment, the pad is the word before it.
     pub fn place(&mut self, g: usize, n: u32) -> Result<(usize, u32), NoSpace<S::Fault>>
-        ensures outcome { Placed g n (S.Source.fault self.old.source) (space_of S.Reading.segments S.Source.offers S.Source.first self.old) result (space_of S.Reading.segments S.Source.offers S.Source.first self.new) }
+        ensures outcome { Placed g n (S.Source.fault self.old.source) (space_of S.Source self.old) result (space_of S.Source self.new) }
     {
         if let Some(w) = self.table.allocate(g, n) {
             return Ok((g, w));
@@ -20,7 +20,7 @@ impl<S: Source> BuilderArena<S> {
 
     // Takes a landing pad for a child in segment `g`: a word there, or two words anywhere.
     pub fn place_pad(&mut self, g: usize) -> Result<(usize, u32), NoSpace<S::Fault>>
-        ensures outcome { Padded g (S.Source.fault self.old.source) (space_of S.Reading.segments S.Source.offers S.Source.first self.old) result (space_of S.Reading.segments S.Source.offers S.Source.first self.new) }
+        ensures outcome { Padded g (S.Source.fault self.old.source) (space_of S.Source self.old) result (space_of S.Source self.new) }
     {
         if let Some(w) = self.table.allocate(g, 1) {
             return Ok((g, w));

@@ -1,5 +1,6 @@
 // Words of a source set back to zero.
 ghost use Rattle.std.specs.Prelude.{◌≡◌, ℕ};
+ghost use Rattle.arena.specs.Steady.{Steady};
 ghost use Rattle.arena.specs.Zeroed.{zeroed_words, Zeroed};
 
 use segments::source::Source;
@@ -8,11 +9,10 @@ use segments::source::Source;
 pub fn zero_words<S: Source>(source: &mut S, g: usize, from: u32, n: u32)
     ensures words { S.Reading.segments source.new ≡ zeroed_words (S.Reading.segments source.old) g from n }
     ensures pointwise { Zeroed (S.Reading.segments source.old) (S.Reading.segments source.new) g from n }
-    ensures offers { S.Source.offers source.new ≡ S.Source.offers source.old }
-    ensures first { S.Source.first source.new ≡ S.Source.first source.old }
-    ensures fault { S.Source.fault source.new ≡ S.Source.fault source.old }
+    ensures steady { Steady S.Source source.old source.new }
 {
-    for i in 0..n {
-        let _ = source.write(g, from as usize + i as usize, 0);
+    let from = from as usize;
+    for w in from..from + n as usize {
+        let _ = source.write(g, w, 0);
     }
 }

@@ -6,7 +6,8 @@ use Rattle.tree.specs.Shows.{Memory, Landing, land, walk}
 use Rattle.table.specs.Segments.{Table, capacities, all_fresh, Bounded}
 use Rattle.table.specs.Placing.{Room, room, got, no_space, pad, root}
 use Rattle.table.specs.Laws.{Later, After}
-use Rattle.table.proofs.Tables.{append_assoc', append_none, capacities_length, capacities_append, capacities_fresh}
+use Rattle.std.proofs.lemmas.List.{append-nil, append_assoc}
+use Rattle.table.proofs.Tables.{capacities_length, capacities_append, capacities_fresh}
 use Rattle.table.proofs.Bounds.{firsts, seconds, Fair, Fits, Ends, fresh_bounded, ends_got, ends_then, ends_if, ends_each, ends_place, ends_pad, ends_root}
 use Rattle.law.specs.Calls.{Call}
 use Rattle.law.specs.Machine.{Making, keep, wipe, set, new, spell, rebuild, making, text_shape}
@@ -79,11 +80,11 @@ module _ {X : Type 0} (S : Source X) where
   granted_offered from to (m ∷ ms) (c ∷ cs) o h = granted_offered (S h.1.0) to ms cs h.1.2 h.1.4
 
   pub granted_lengths : (from to : Meaning) (ms cs : List ℕ) → Granted S from ms cs to → lengths to ≡ lengths from ++ cs
-  granted_lengths from to [] [] h = h.0 ∙ sym (append_none (lengths from))
+  granted_lengths from to [] [] h = h.0 ∙ sym (append-nil (lengths from))
   granted_lengths from to [] (c ∷ cs) h = absurd h
   granted_lengths from to (m ∷ ms) [] h = absurd h
   granted_lengths from to (m ∷ ms) (c ∷ cs) h =
-      granted_lengths (S h.1.0) to ms cs h.1.4 ∙ ap (λ l. l ++ cs) h.1.1 ∙ append_assoc' (lengths from) (c ∷ []) cs
+      granted_lengths (S h.1.0) to ms cs h.1.4 ∙ ap (λ l. l ++ cs) h.1.1 ∙ append_assoc (lengths from) (c ∷ []) cs
 
   granted_fair : (from to : Meaning) (gs : List (ℕ × ℕ)) → Offered from.offers → Granted S from (firsts gs) (seconds gs) to → Fair gs
   granted_fair from to [] o h = tt
@@ -94,7 +95,7 @@ module _ {X : Type 0} (S : Source X) where
   fair_by : (s s' : State) (met : List ℕ) (r : Room) → Stands S s → (f : Fits (room s.table met) r) → r.coming ≡ [] →
       Granted S s.source r.asked met s'.source → Fair f.grants
   fair_by s s' met r st f used g =
-      let all : met ≡ seconds f.grants = f.coming_is ∙ ap (λ l. seconds f.grants ++ l) used ∙ append_none (seconds f.grants) in
+      let all : met ≡ seconds f.grants = f.coming_is ∙ ap (λ l. seconds f.grants ++ l) used ∙ append-nil (seconds f.grants) in
       granted_fair s.source s'.source f.grants st.offered
       (subst (λ l. Granted S s.source (firsts f.grants) l s'.source) all (subst (λ l. Granted S s.source l met s'.source) f.asked_is g))
 
@@ -110,7 +111,7 @@ module _ {X : Type 0} (S : Source X) where
       let l : Later (room s.table met) r = call_later (memory s) v s.table met c r x e in
       record {
         valued = valued;
-        sizes_match = sized_by s s' met r st g ∙ sym l.capacities_same ∙ ap (λ z. capacities r.table ++ z) used ∙ append_none (capacities r.table) ∙
+        sizes_match = sized_by s s' met r st g ∙ sym l.capacities_same ∙ ap (λ z. capacities r.table ++ z) used ∙ append-nil (capacities r.table) ∙
             ap capacities (sym tab);
         at_most = rw tab (f.at_most st.at_most);
         bounded = rw tab (f.bounded st.bounded (fair_by s s' met r st f used g));
@@ -124,9 +125,9 @@ module _ {X : Type 0} (S : Source X) where
   stands_crowded s v c met s' r m st e used g tab valued =
       let f : Fits (room s.table met) r = crowded_fits (memory s) v s.table met c r m e in
       let l : Later (room s.table met) r = crowded_later (memory s) v s.table met c r m e in
-      let all : met ≡ seconds f.grants = f.coming_is ∙ ap (λ z. seconds f.grants ++ z) used ∙ append_none (seconds f.grants) in
+      let all : met ≡ seconds f.grants = f.coming_is ∙ ap (λ z. seconds f.grants ++ z) used ∙ append-nil (seconds f.grants) in
       let caps : capacities (s.table ++ all_fresh met) ≡ capacities s.table ++ met = capacities_append s.table (all_fresh met) ∙ ap (λ z. capacities s.table ++ z) (capacities_fresh met) in
-      let last : capacities r.table ≡ capacities s.table ++ met = sym (append_none (capacities r.table)) ∙ ap (λ z. capacities r.table ++ z) (sym used) ∙ l.capacities_same in
+      let last : capacities r.table ≡ capacities s.table ++ met = sym (append-nil (capacities r.table)) ∙ ap (λ z. capacities r.table ++ z) (sym used) ∙ l.capacities_same in
       let long : length (s.table ++ all_fresh met) ≡ length r.table =
       sym (capacities_length (s.table ++ all_fresh met)) ∙ ap length (caps ∙ sym last) ∙ capacities_length r.table in
       record {

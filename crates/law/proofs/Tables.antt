@@ -6,7 +6,9 @@ use Rattle.tree.specs.Words.{word}
 use Rattle.table.specs.Segments.{allocated_in, capacities}
 use Rattle.table.specs.Placing.{Room, room, Outcome, got, no_space}
 use Rattle.table.specs.Laws.{After}
-use Rattle.table.proofs.Tables.{append_none, drop_front, capacities_length, capacities_append, capacities_fresh, append_more, append_fresh}
+use Rattle.std.proofs.lemmas.List.{append-nil}
+use Rattle.std.proofs.Math.Seq.{drop-append_seam}
+use Rattle.table.proofs.Tables.{capacities_length, capacities_append, capacities_fresh, append_more, append_fresh}
 use Rattle.law.specs.Calls.{Edit, init_struct, init_list, init_rows, get_struct, get_rows, text, clear, write, Call, Refusal}
 use Rattle.law.specs.Machine.{Verdict, fine, wrong, judge, judged, reply, effect}
 use Rattle.law.specs.Exact.{Written}
@@ -67,8 +69,8 @@ module _ {X : Type 0} (S : Source X) where
 
     kept_by : (d : Verdict) (o : Outcome Written) → After start o → Placing S s v c met y s' d o → capacities s'.table ≡ capacities s.table ++ met
     unfolding After
-    kept_by (wrong a) o h p = rw (p.same, p.no_grant) (sym (append_none _))
-    kept_by fine (got r w) h p = rw p.table_is (sym (append_none _) ∙ ap (λ l. capacities r.table ++ l) (sym p.all_used) ∙ h.capacities_same)
+    kept_by (wrong a) o h p = rw (p.same, p.no_grant) (sym (append-nil _))
+    kept_by fine (got r w) h p = rw p.table_is (sym (append-nil _) ∙ ap (λ l. capacities r.table ++ l) (sym p.all_used) ∙ h.capacities_same)
     kept_by fine (no_space r m) h p =
         rw p.back.table_is (capacities_append s.table _ ∙ ap (λ l. capacities s.table ++ l) (capacities_fresh met))
 
@@ -93,7 +95,7 @@ module _ {X : Type 0} (S : Source X) where
     first_by fine (no_space r m) p = granted_first s.source s'.source r.asked met p.back.granted
 
   met_by : (s s' : State) (met : List ℕ) → capacities s'.table ≡ capacities s.table ++ met → met ≡ met_in s s'
-  met_by s s' met e = rw (e, ← capacities_length s.table) (sym (drop_front (capacities s.table) met))
+  met_by s s' met e = rw (e, ← capacities_length s.table) (sym (drop-append_seam (capacities s.table) met))
 
   kept : (s : State) (v : Value) (c : Call) (met : List ℕ) (y : Reply) (s' : State) → Lawful S s v c met y s' → capacities s'.table ≡ capacities s.table ++ met
   kept s v c met y s' h = kept_by s v c met y s' (judge v c) _ (after_call (memory s) v (room s.table met) c) h.placing

@@ -5,7 +5,8 @@ use Rattle.table.specs.Segments.{fresh, more, allocated_in, left_in, capacities,
 use Rattle.table.specs.Placing.{Room, Outcome, got, no_space, then, each, in_segment, grant, anywhere, place, pad, root}
 use Rattle.table.specs.Laws.{Later, After, Got, Fresh, Placed, Padded, AllocationsStand}
 use Rattle.table.proofs.Extending.{extends_anywhere, extends_place, extends_pad, extends_root}
-use Rattle.table.proofs.Tables.{append_assoc', capacities_append, capacities_take, take_more, take_here, append_more, append_here, past_none, first_fits}
+use Rattle.std.proofs.lemmas.List.{append_assoc}
+use Rattle.table.proofs.Tables.{capacities_append, capacities_take, take_more, take_here, append_more, append_here, past_none, first_fits}
 
 -- ## Rooms
 
@@ -59,7 +60,7 @@ after_grant : (r : Room) (n : ℕ) (cs : List ℕ) → r.coming ≡ cs → After
 unfolding After
 after_grant r n [] e = later_same r
 after_grant r n (c ∷ cs) e = record {
-  capacities_same = ap (λ l. l ++ cs) (capacities_append r.table _) ∙ append_assoc' (capacities r.table) (c ∷ []) cs ∙
+  capacities_same = ap (λ l. l ++ cs) (capacities_append r.table _) ∙ append_assoc (capacities r.table) (c ∷ []) cs ∙
       ap (λ l. capacities r.table ++ l) (sym e);
   grown = λ x. append_more r.table _ x;
 }
@@ -112,22 +113,15 @@ found_grant r n (c ∷ cs) e = (
   λ g one _ q. omega (arith, past_none r.table, subst (λ z. 1 ≤ allocated_in r.table z) (sym q) one),
 )
 
-found_none : (r : Room) (n : ℕ) → Got (Found r n) (no_space r n)
-unfolding Got
-found_none r n = tt
+got_if : {A : Type 0} (P : Room → A → Type 0) (b : Bool) (o q : Outcome A) → (b ≡ true → Got P o) → (b ≡ false → Got P q) → Got P (cond b o q)
+got_if P true o q h k = h refl
+got_if P false o q h k = k refl
 
 found_anywhere : (r : Room) (n : ℕ) → Got (Found r n) (anywhere r n)
-unfolding anywhere
-found_anywhere r n = first (ltb (first_fit r.table n) (length r.table)) refl
-  where
-    second : (b : Bool) → Got (Found r n) (cond b (grant r n r.coming) (no_space r n))
-    second true = found_grant r n r.coming refl
-    second false = found_none r n
-
-    first : (b : Bool) → ltb (first_fit r.table n) (length r.table) ≡ b →
-        Got (Found r n) (cond b (in_segment r (first_fit r.table n) n) (cond (ltb (length r.table) 64) (grant r n r.coming) (no_space r n)))
-    first true e = found_fit r n (ltb-true _ _ e)
-    first false e = second (ltb (length r.table) 64)
+unfolding anywhere Got
+found_anywhere r n =
+    got_if (Found r n) (ltb (first_fit r.table n) (length r.table)) _ _ (λ e. found_fit r n (ltb-true _ _ e))
+    (λ _. got_if (Found r n) (ltb (length r.table) 64) _ _ (λ _. found_grant r n r.coming refl) (λ _. tt))
 
 got_map : {A B : Type 0} (P : Room → A → Type 0) (Q : Room → B → Type 0) (f : A → B) (o : Outcome A) →
     ((r : Room) (a : A) → P r a → Q r (f a)) → Got P o → Got Q (then o (λ r a. got r (f a)))
@@ -146,27 +140,24 @@ here_fresh r g n h = (refl, record { later = after_in_segment r g n; unused = om
 
 pub fresh_place : (r : Room) (g n : ℕ) → 1 ≤ allocated_in r.table g → Got (Placed r g n) (place r g n)
 unfolding place
-fresh_place r g n one = go (leb n (left_in r.table g)) refl
-  where
-    go : (b : Bool) → leb n (left_in r.table g) ≡ b →
-        Got (Placed r g n) (cond b (in_segment r g n) (then (anywhere r (n + 1)) (λ r' p. got r' (p.0, p.1 + 1))))
-    go true e = got_more _ (Placed r g n) (in_segment r g n) (λ r' p h. inl h) (here_fresh r g n (leb-true _ _ e))
-    go false e =
-        let full : left_in r.table g < n = leb-false _ _ e in
-        got_map (Found r (n + 1)) (Placed r g n) (λ p. (p.0, p.1 + 1)) (anywhere r (n + 1))
-        (λ r' p h.
-        inr (h.1 g one (omega arith), (p.1, refl, record { later = h.0.later; unused = h.0.unused; inside = omega (arith, h.0.inside) })))
-        (found_anywhere r (n + 1))
+fresh_place r g n one =
+    got_if (Placed r g n) (leb n (left_in r.table g)) _ _
+    (λ e. got_more _ (Placed r g n) (in_segment r g n) (λ r' p h. inl h) (here_fresh r g n (leb-true _ _ e)))
+    (λ e.
+    let full : left_in r.table g < n = leb-false _ _ e in
+    got_map (Found r (n + 1)) (Placed r g n) (λ p. (p.0, p.1 + 1)) (anywhere r (n + 1))
+    (λ r' p h.
+    inr (h.1 g one (omega arith), (p.1, refl, record { later = h.0.later; unused = h.0.unused; inside = omega (arith, h.0.inside) })))
+    (found_anywhere r (n + 1)))
 
 pub fresh_pad : (r : Room) (g : ℕ) → 1 ≤ allocated_in r.table g → Got (Padded r g) (pad r g)
 unfolding pad
-fresh_pad r g one = go (leb 1 (left_in r.table g)) refl
-  where
-    go : (b : Bool) → leb 1 (left_in r.table g) ≡ b → Got (Padded r g) (cond b (in_segment r g 1) (anywhere r 2))
-    go true e = got_more _ (Padded r g) (in_segment r g 1) (λ r' p h. inl h) (here_fresh r g 1 (leb-true _ _ e))
-    go false e =
-        let full : left_in r.table g < 1 = leb-false _ _ e in
-        got_more _ (Padded r g) (anywhere r 2) (λ r' p h. inr (h.1 g one (omega arith), h.0)) (found_anywhere r 2)
+fresh_pad r g one =
+    got_if (Padded r g) (leb 1 (left_in r.table g)) _ _
+    (λ e. got_more _ (Padded r g) (in_segment r g 1) (λ r' p h. inl h) (here_fresh r g 1 (leb-true _ _ e)))
+    (λ e.
+    let full : left_in r.table g < 1 = leb-false _ _ e in
+    got_more _ (Padded r g) (anywhere r 2) (λ r' p h. inr (h.1 g one (omega arith), h.0)) (found_anywhere r 2))
 
 pub allocations : AllocationsStand
 allocations = record {

@@ -1,32 +1,23 @@
 -- Allocations keep the table within its bounds, if each grant gave what it was asked for.
-use Rattle.std.proofs.Common.{◌≡◌, ℕ, zero, suc, ◌+◌, ◌^◌, ◌<◌, ◌≤◌, Bool, true, false, cond, eqb, ltb, leb, List, [], ◌∷◌, ◌++◌, length, sym, refl, ap, ◌∙◌, arith}
+use Rattle.std.proofs.Common.{◌≡◌, ℕ, zero, suc, ◌+◌, ◌^◌, ◌<◌, ◌≤◌, Bool, true, false, cond, eqb, ltb, leb, List, [], ◌∷◌, ◌++◌, map, length, sym, refl, ap, ◌∙◌, arith}
 use Rattle.std.proofs.lemmas.Bool.{leb-true, ltb-true}
 use Rattle.table.specs.Segments.{Segment, fresh, more, Table, allocated_in, left_in, take, first_fit, all_fresh, Bounded}
 use Rattle.table.specs.Placing.{Room, Outcome, got, no_space, then, each, in_segment, grant, anywhere, place, pad, root}
-use Rattle.table.proofs.Tables.{append_assoc', append_none, first_fits}
+use Rattle.std.proofs.lemmas.List.{append-nil, append_assoc, map-append, length_push}
+use Rattle.table.proofs.Tables.{first_fits}
 
 -- ## Grants
 
 abbrev pub firsts : List (ℕ × ℕ) → List ℕ
-firsts [] = []
-firsts (g ∷ gs) = g.0 ∷ firsts gs
+firsts gs = map (λ g. g.0) gs
 
 abbrev pub seconds : List (ℕ × ℕ) → List ℕ
-seconds [] = []
-seconds (g ∷ gs) = g.1 ∷ seconds gs
+seconds gs = map (λ g. g.1) gs
 
 -- minima and capacities that the sources' law allows
 abbrev pub Fair : List (ℕ × ℕ) → Type 0
 Fair [] = Unit {0}
 Fair (g ∷ gs) = (0 < g.1) × (g.0 ≤ g.1) × (g.1 < 2 ^ 29) × Fair gs
-
-firsts_append : (p q : List (ℕ × ℕ)) → firsts (p ++ q) ≡ firsts p ++ firsts q
-firsts_append [] q = refl
-firsts_append (g ∷ p) q = ap (λ l. g.0 ∷ l) (firsts_append p q)
-
-seconds_append : (p q : List (ℕ × ℕ)) → seconds (p ++ q) ≡ seconds p ++ seconds q
-seconds_append [] q = refl
-seconds_append (g ∷ p) q = ap (λ l. g.1 ∷ l) (seconds_append p q)
 
 fair_split : (p q : List (ℕ × ℕ)) → Fair (p ++ q) → Fair p × Fair q
 fair_split [] q h = (tt, h)
@@ -43,10 +34,6 @@ take_bounded : (t : Table) (g n : ℕ) → n ≤ left_in t g → Bounded t → B
 take_bounded [] g n h b = tt
 take_bounded (s ∷ t) zero n h b = (omega arith, b.1, b.2, b.3)
 take_bounded (s ∷ t) (suc g) n h b = (b.0, b.1, b.2, take_bounded t g n h b.3)
-
-append_length : (t : Table) (s : Segment) → length (t ++ (s ∷ [])) ≡ suc (length t)
-append_length [] s = refl
-append_length (u ∷ t) s = ap suc (append_length t s)
 
 append_bounded : (t : Table) (s : Segment) → s.allocated ≤ s.capacity → 0 < s.capacity → s.capacity < 2 ^ 29 → Bounded t → Bounded (t ++ (s ∷ []))
 append_bounded [] s h k l b = (h, k, l, tt)
@@ -72,15 +59,15 @@ Ends r (got r' a) = Fits r r'
 Ends r (no_space r' m) = Fits r r'
 
 fits_same : (r : Room) → Fits r r
-fits_same r = record { grants = []; asked_is = sym (append_none r.asked); coming_is = refl; at_most = λ h. h; bounded = λ b _. b }
+fits_same r = record { grants = []; asked_is = sym (append-nil r.asked); coming_is = refl; at_most = λ h. h; bounded = λ b _. b }
 
 fits_then : (r r' r'' : Room) → Fits r r' → Fits r' r'' → Fits r r''
 fits_then r r' r'' p q = record {
   grants = p.grants ++ q.grants;
-  asked_is = q.asked_is ∙ ap (λ l. l ++ firsts q.grants) p.asked_is ∙ append_assoc' r.asked (firsts p.grants) (firsts q.grants) ∙
-      ap (λ l. r.asked ++ l) (sym (firsts_append p.grants q.grants));
-  coming_is = p.coming_is ∙ ap (λ l. seconds p.grants ++ l) q.coming_is ∙ sym (append_assoc' (seconds p.grants) (seconds q.grants) r''.coming) ∙
-      ap (λ l. l ++ r''.coming) (sym (seconds_append p.grants q.grants));
+  asked_is = q.asked_is ∙ ap (λ l. l ++ firsts q.grants) p.asked_is ∙ append_assoc r.asked (firsts p.grants) (firsts q.grants) ∙
+      ap (λ l. r.asked ++ l) (sym (map-append (λ g. g.0) p.grants q.grants));
+  coming_is = p.coming_is ∙ ap (λ l. seconds p.grants ++ l) q.coming_is ∙ sym (append_assoc (seconds p.grants) (seconds q.grants) r''.coming) ∙
+      ap (λ l. l ++ r''.coming) (sym (map-append (λ g. g.1) p.grants q.grants));
   at_most = λ h. q.at_most (p.at_most h);
   bounded = λ b f. let s = fair_split p.grants q.grants f in q.bounded (p.bounded b s.0) s.1;
 }
@@ -111,7 +98,7 @@ ends_in_segment : (r : Room) (g n : ℕ) → n ≤ left_in r.table g → Ends r 
 unfolding Ends
 ends_in_segment r g n h = record {
   grants = [];
-  asked_is = sym (append_none r.asked);
+  asked_is = sym (append-nil r.asked);
   coming_is = refl;
   at_most = λ k. omega (arith, take_length r.table g n);
   bounded = λ b _. take_bounded r.table g n h b;
@@ -124,7 +111,7 @@ ends_grant r n (c ∷ cs) e h = record {
   grants = (n, c) ∷ [];
   asked_is = refl;
   coming_is = e;
-  at_most = λ _. omega (arith, append_length r.table (more (fresh c) n));
+  at_most = λ _. omega (arith, length_push r.table (more (fresh c) n));
   bounded = λ b f. append_bounded r.table (more (fresh c) n) (omega (arith, f.1)) f.0 f.2 b;
 }
 

@@ -1,5 +1,5 @@
 -- What is got stays got where more segments are still to come: so a call's allocations can be put together one after another.
-use Rattle.std.proofs.Common.{◌≡◌, ℕ, ◌+◌, Bool, true, false, cond, eqb, ltb, leb, List, [], ◌∷◌, ◌++◌, length, refl, arith}
+use Rattle.std.proofs.Common.{◌≡◌, ℕ, ◌+◌, Bool, true, false, cond, eqb, ltb, leb, List, [], ◌∷◌, ◌++◌, length, refl}
 use Rattle.table.specs.Segments.{allocated_in, left_in, first_fit}
 use Rattle.table.specs.Placing.{Room, extend, Outcome, got, no_space, then, in_segment, grant, anywhere, place, pad, root}
 
@@ -13,9 +13,6 @@ same_got q r b a ds e =
     let same' : b ≡ a = cc in
     rw (same, same')
 
-never_got : {A : Type 0} (q r : Room) (m : ℕ) (a : A) → no_space q m ≡ got r a → ⊥
-never_got q r m a e = let z : ◌≡◌ {A = ℕ} 0 1 = cc in omega arith
-
 pub extends_got : {A : Type 0} (a : A) → Extends (λ r. got r a)
 extends_got b r r' a ds e = same_got r r' b a ds e
 
@@ -25,7 +22,7 @@ extends_then f k hf hk r r' b ds = go (f r) refl
   where
     go : (o : Outcome _) → f r ≡ o → then o k ≡ got r' b → then (f (extend r ds)) k ≡ got (extend r' ds) b
     go (got q a) e h = rw (hf r q a ds e) (hk a q r' b ds h)
-    go (no_space q m) e h = absurd (never_got q r' m b h)
+    go (no_space q m) e h = cc
 
 pub extends_if : {A : Type 0} (t : Room → Bool) (f g : Room → Outcome A) → ((r : Room) (ds : List ℕ) → t (extend r ds) ≡ t r) → Extends f → Extends g →
     Extends (λ r. cond (t r) (f r) (g r))
@@ -42,11 +39,11 @@ extends_grant : (n : ℕ) → Extends (λ r. grant r n r.coming)
 extends_grant n r r' p ds = go r.coming
   where
     go : (cs : List ℕ) → grant r n cs ≡ got r' p → grant (extend r ds) n (cs ++ ds) ≡ got (extend r' ds) p
-    go [] h = absurd (never_got r r' n p h)
+    go [] h = cc
     go (c ∷ cs) h = same_got _ r' _ p ds h
 
 extends_none : (n : ℕ) → Extends {A = ℕ × ℕ} (λ r. no_space r n)
-extends_none n r r' p ds h = absurd (never_got r r' n p h)
+extends_none n r r' p ds h = cc
 
 pub extends_anywhere : (n : ℕ) → Extends (λ r. anywhere r n)
 unfolding anywhere

@@ -1,19 +1,6 @@
 -- What allocations leave of the table.
-use Rattle.std.proofs.Common.{◌≡◌, ℕ, zero, suc, ◌+◌, ◌-◌, ◌<◌, ◌≤◌, Bool, true, false, cond, leb, List, [], ◌∷◌, ◌++◌, length, drop, refl, ap, arith}
-use Rattle.std.proofs.lemmas.Bool.{leb-true}
+use Rattle.std.proofs.Common.{◌≡◌, ℕ, zero, suc, ◌+◌, ◌<◌, ◌≤◌, List, [], ◌∷◌, ◌++◌, length, refl, ap, arith}
 use Rattle.table.specs.Segments.{Segment, Table, allocated_in, left_in, capacities, take, first_fit, all_fresh}
-
-pub append_assoc' : (xs ys zs : List ℕ) → (xs ++ ys) ++ zs ≡ xs ++ (ys ++ zs)
-append_assoc' [] ys zs = refl
-append_assoc' (x ∷ xs) ys zs = ap (λ l. x ∷ l) (append_assoc' xs ys zs)
-
-pub append_none : (xs : List ℕ) → xs ++ [] ≡ xs
-append_none [] = refl
-append_none (x ∷ xs) = ap (λ l. x ∷ l) (append_none xs)
-
-pub drop_front : (xs ys : List ℕ) → drop (length xs) (xs ++ ys) ≡ ys
-drop_front [] ys = refl
-drop_front (x ∷ xs) ys = drop_front xs ys
 
 -- ## Capacities
 
@@ -76,9 +63,4 @@ append_fresh (s ∷ t) cs (suc x) = append_fresh t cs x
 
 pub first_fits : (t : Table) (n : ℕ) → first_fit t n < length t → n ≤ left_in t (first_fit t n)
 first_fits [] n h = absurd (omega arith)
-first_fits (s ∷ t) n h = go (leb n (s.capacity - s.allocated)) refl h (first_fits t n)
-  where
-    go : (b : Bool) → leb n (s.capacity - s.allocated) ≡ b → cond b 0 (suc (first_fit t n)) < suc (length t) →
-        (first_fit t n < length t → n ≤ left_in t (first_fit t n)) → n ≤ left_in (s ∷ t) (cond b 0 (suc (first_fit t n)))
-    go true e h f = leb-true n (s.capacity - s.allocated) e
-    go false e h f = f (omega arith)
+first_fits (s ∷ t) n h = grind (arith, first_fits t n)

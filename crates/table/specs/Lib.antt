@@ -2,5 +2,4 @@
 pub mod Segments
 pub mod Placing
 pub mod Laws
-pub mod Entries
 pub mod Meaning

@@ -12,7 +12,5 @@ returns g c =
       words = subst (λ (n : List (List ℕ)). Rewound m n (table_of c.args.self.now.table) (table_of c.args.mark.now)) (sym c.rewind_words.ensures.words) (rewound_is m (table_of c.args.self.now.table) (table_of c.args.mark.now));
       sizes = ap (map length) c.rewind_words.ensures.words ∙ rewound_sizes m (table_of c.args.self.now.table) (table_of c.args.mark.now) (length (table_of c.args.self.now.table));
       table = c.roll_back.ensures.after;
-      offers = c.rewind_words.ensures.offers;
-      first = c.rewind_words.ensures.first;
-      fault = c.rewind_words.ensures.fault;
+      steady = c.rewind_words.ensures.steady;
     }

@@ -15,12 +15,13 @@ loop-g-preserved g c =
     let from : c.allocated-from.result ≡ allocated_in k i = c.allocated-from.ensures.value in
     let n : c.saturating_sub.result ≡ allocated_in t i - allocated_in k i =
     c.saturating_sub.ensures ∙
-    (ap (λ (x : ℕ). x - c.allocated-from.result) c.allocated.ensures.value ∙ ap (λ (x : ℕ). allocated_in t i - x) from) in (
-      c.zero_words.ensures.words ∙
-          (ap (λ (x : List (List ℕ)). zeroed_words x i c.allocated-from.result c.saturating_sub.result) c.loop-g.invariant.0 ∙
+    (ap (λ (x : ℕ). x - c.allocated-from.result) c.allocated.ensures.value ∙ ap (λ (x : ℕ). allocated_in t i - x) from) in
+    record {
+      words = c.zero_words.ensures.words ∙
+          (ap (λ (x : List (List ℕ)). zeroed_words x i c.allocated-from.result c.saturating_sub.result) c.loop-g.invariant.words ∙
           (ap (λ (x : ℕ). zeroed_words (rewound_words m t k i) i x c.saturating_sub.result) from ∙
-          (ap (λ (x : ℕ). zeroed_words (rewound_words m t k i) i (allocated_in k i) x) n ∙ rewound_more m t k i))),
-      c.zero_words.ensures.offers ∙ c.loop-g.invariant.1,
-      c.zero_words.ensures.first ∙ c.loop-g.invariant.2,
-      c.zero_words.ensures.fault ∙ c.loop-g.invariant.3,
-    )
+          (ap (λ (x : ℕ). zeroed_words (rewound_words m t k i) i (allocated_in k i) x) n ∙ rewound_more m t k i)));
+      offers = c.zero_words.ensures.steady.offers ∙ c.loop-g.invariant.offers;
+      first = c.zero_words.ensures.steady.first ∙ c.loop-g.invariant.first;
+      fault = c.zero_words.ensures.steady.fault ∙ c.loop-g.invariant.fault;
+    }

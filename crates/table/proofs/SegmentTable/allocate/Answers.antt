@@ -1,29 +1,34 @@
 -- An allocation takes the next words of a segment that has as many left, and changes nothing else.
-use Rattle.std.proofs.Common.{◌≤◌, length, Some, sym, ap, ◌∙◌, arith}
-use Rattle.table.specs.Meaning.{table_of}
-use Rattle.table.proofs.Entries.{room_enough, room_short, room_none, allocate_refused, allocate_accepted, allocated_is, take_is}
+use Rattle.std.proofs.Common.{◌≡◌, ◌-◌, true, false, Some, refl, ap, sym, ◌∙◌}
+use Rattle.std.proofs.lemmas.Bool.{le-leb, lt-leb}
+use Rattle.table.specs.Meaning.{table_of, has_room}
+use Rattle.table.proofs.Entries.{allocated_here, room_here, take_written}
 use Rattle.table.proofs.SegmentTable.allocate.Goals as goal
+use Rattle.table.proofs.SegmentTable.allocate.Goals.{After-index-self-g-2}
 
-pub returns-then-g-self : goal.returns-then-g-self
-returns-then-g-self c =
-    let b : c.args.self.now.count ≤ length c.args.self.now.entries = omega arith in
-    let r = allocate_refused (table_of c.args.self.now) c.args.g c.args.n
-    (room_none c.args.self.now.count c.args.g c.args.n c.args.self.now.entries b c.if-g-self.true) in
-    record { value = r.0; after = r.1 }
+short : (c : goal.Then-n-left) → has_room (table_of c.args.self.now) c.args.g c.args.n ≡ false
+short c =
+    let h = c.in_ok-e.ensures.lookup in
+    room_here c.in_ok-e.field-0.now (lib.ListN.take c.args.self.now.count c.args.self.now.entries) c.args.g c.args.n h.3.0 h.1 ∙
+    lt-leb c.args.n (c.in_ok-e.field-0.now.capacity - c.in_ok-e.field-0.now.allocated) (rw (sym c.left.ensures) c.if-n-left.true)
 
-pub returns-then-n-e : goal.returns-then-n-e
-returns-then-n-e c =
-    let b : c.args.self.now.count ≤ length c.args.self.now.entries = omega arith in
-    let r = allocate_refused (table_of c.args.self.now) c.args.g c.args.n
-    (room_short c.args.self.now.count c.args.g c.args.n c.args.self.now.entries b c.if-g-self.false c.if-n-e.true) in
-    record { value = r.0; after = r.1 }
+pub returns-then-n-left-clause-value : goal.returns-then-n-left-clause-value
+returns-then-n-left-clause-value c = rw (short c) refl
 
-pub returns : goal.returns
-returns c =
-    let b : c.args.self.now.count ≤ length c.args.self.now.entries = omega arith in
-    let r = allocate_accepted (table_of c.args.self.now) c.args.g c.args.n
-    (room_enough c.args.self.now.count c.args.g c.args.n c.args.self.now.entries b c.if-g-self.false c.if-n-e.false) in
-    record {
-      value = ap Some (sym (allocated_is c.args.self.now.count c.args.g c.args.self.now.entries b c.if-g-self.false)) ∙ r.0;
-      after = take_is c.args.self.now.count c.args.g c.args.n c.args.self.now.entries b c.if-g-self.false ∙ r.1;
-    }
+pub returns-then-n-left-clause-after : goal.returns-then-n-left-clause-after
+returns-then-n-left-clause-after c = rw (short c) refl
+
+enough : (c : goal.After-self-1) → has_room (table_of c.args.self.now) c.args.g c.args.n ≡ true
+enough c =
+    let h = c.in_ok-e.ensures.lookup in
+    room_here c.in_ok-e.field-0.now (lib.ListN.take c.args.self.now.count c.args.self.now.entries) c.args.g c.args.n h.3.0 h.1 ∙
+    le-leb c.args.n (c.in_ok-e.field-0.now.capacity - c.in_ok-e.field-0.now.allocated) (rw (sym c.left.ensures) c.if-n-left.false)
+
+pub returns-clause-value : goal.returns-clause-value
+returns-clause-value c =
+    let h = c.in_ok-e.ensures.lookup in
+    rw (enough c) (ap Some (sym (allocated_here c.in_ok-e.field-0.now (lib.ListN.take c.args.self.now.count c.args.self.now.entries) c.args.g h.3.0 h.1)))
+
+pub returns-clause-after : goal.returns-clause-after
+returns-clause-after c =
+    rw (enough c) (take_written c.args.self.now.count c.args.self.now.entries c.args.g c.args.n _ c.index-self-g.result c.index-self-g-2.result refl refl)
