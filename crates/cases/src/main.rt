@@ -2,7 +2,7 @@
 #![tactic(auto)]
 
 use report::bad::Told;
-use report::command::Plan;
+use report::command::Entry;
 use script::read::read_script;
 use std::{env, fs};
 
@@ -11,9 +11,8 @@ fn show(rt: &HostRuntime, file: &str) -> anyhow::Result<()> {
     let script = read_script(rt.alloc(), text.as_str())?;
     println!(rt; "== {file}")?;
     for numbered in script.commands.iter() {
-        let line = numbered.line;
-        let plan = Plan(&numbered.command);
-        println!(rt; "line {line}: {plan}")?;
+        let entry = Entry(numbered);
+        println!(rt; "{entry}")?;
     }
     for bad in script.bad.iter() {
         let told = Told(bad);
@@ -23,9 +22,7 @@ fn show(rt: &HostRuntime, file: &str) -> anyhow::Result<()> {
 }
 
 fn work(rt: &HostRuntime) -> anyhow::Result<()> {
-    let mut args = env::args(rt)?;
-    let _program = args.next();
-    for file in args {
+    for file in env::args(rt)?.skip(1) {
         show(rt, file.as_str())?;
     }
     Ok(())

@@ -5,7 +5,7 @@ ghost use Rattle.line.specs.Order.{right, faulty, after_outside, after_named, af
 use crate::fault::Fault;
 
 // How far a case has come: none is begun, its name is known, its source is known.
-#[derive(Clone, Copy)]
+#[derive(Clone, Copy, Debug, PartialEq, Eq)]
 pub enum Stage {
     Outside,
     Named,
@@ -13,7 +13,7 @@ pub enum Stage {
 }
 
 // What a line is, by its first word.
-#[derive(Clone, Copy)]
+#[derive(Clone, Copy, Debug, PartialEq, Eq)]
 pub enum Sort {
     Case,
     Source,
@@ -23,7 +23,7 @@ pub enum Sort {
 }
 
 // The stage after a line, and what is wrong with the line's order.
-#[derive(Clone, Copy)]
+#[derive(Clone, Copy, Debug, PartialEq, Eq)]
 pub struct Turn {
     pub stage: Stage,
     pub fault: Option<Fault>,

@@ -1,19 +1,13 @@
-// What is shown of a number is read back as the same number: each function here shows its argument and reads that.
+// What is shown of a number is read back as the same number: the function here shows its argument and reads that.
 ghost use Rattle.std.specs.Prelude.{◌≡◌, IfOk, Ok};
 
-use crate::decimal::{NumberFault, number_i32, number_u64};
+use crate::decimal::{Decimal, NumberFault, read_number};
 use std::alloc::{AllocError, Global};
 
-pub fn reread_u64(heap: Global, n: u64) -> Result<Result<u64, NumberFault>, AllocError>
+pub fn reread<T: Decimal>(heap: Global, n: T) -> Result<Result<T, NumberFault>, AllocError>
     ensures { IfOk result (λ again. again ≡ Ok n) }
 {
+    n.in_range();
     let text = n.to_string(heap)?;
-    Ok(number_u64(text.as_str()))
-}
-
-pub fn reread_i32(heap: Global, n: i32) -> Result<Result<i32, NumberFault>, AllocError>
-    ensures { IfOk result (λ again. again ≡ Ok n) }
-{
-    let text = n.to_string(heap)?;
-    Ok(number_i32(text.as_str()))
+    Ok(read_number(text.as_str()))
 }

@@ -1,12 +1,12 @@
 // The kinds of numbers in a message, and values of each kind.
 ghost use Rattle.std.specs.Prelude.{◌≡◌};
 ghost use Rattle.number.specs.Kinds.{kind_name, kind_of, ReadsKind, ReadsValue};
-ghost use Rattle.number.specs.declared.kind.Kind.TheVariants.{Bool as BoolKind, I32 as SignedKind, Void as VoidKind};
+ghost use Rattle.number.specs.declared.kind.Kind.TheVariants.{Bool as BoolKind, Void as VoidKind};
 
-use crate::decimal::{NumberFault, number_i32, number_u8, number_u16, number_u32, number_u64};
+use crate::decimal::{NumberFault, read_number};
 use std::fmt;
 
-#[derive(Clone, Copy)]
+#[derive(Clone, Copy, Debug, PartialEq, Eq)]
 pub enum Kind {
     Bool,
     Void,
@@ -17,7 +17,7 @@ pub enum Kind {
     I32,
 }
 
-#[derive(Clone, Copy)]
+#[derive(Clone, Copy, Debug, PartialEq, Eq)]
 pub enum Value {
     Bool(bool),
     Void,
@@ -46,29 +46,19 @@ pub fn read_kind(word: &str) -> Option<Kind>
 fn read_bool(word: &str) -> Result<Value, NumberFault>
     ensures { ReadsValue BoolKind word.now result }
 {
-    match number_u64(word) {
-        Ok(n) if n < 2 => Ok(Value::Bool(n == 1)),
-        Ok(_) => Err(NumberFault::TooLarge),
-        Err(e) => Err(e),
+    match read_number::<u64>(word)? {
+        0 => Ok(Value::Bool(false)),
+        1 => Ok(Value::Bool(true)),
+        _ => Err(NumberFault::TooLarge),
     }
 }
 
 fn read_void(word: &str) -> Result<Value, NumberFault>
     ensures { ReadsValue VoidKind word.now result }
 {
-    match number_u64(word) {
-        Ok(n) if n < 1 => Ok(Value::Void),
-        Ok(_) => Err(NumberFault::TooLarge),
-        Err(e) => Err(e),
-    }
-}
-
-fn read_signed(word: &str) -> Result<Value, NumberFault>
-    ensures { ReadsValue SignedKind word.now result }
-{
-    match number_i32(word) {
-        Ok(n) => Ok(Value::I32(n)),
-        Err(e) => Err(e),
+    match read_number::<u64>(word)? {
+        0 => Ok(Value::Void),
+        _ => Err(NumberFault::TooLarge),
     }
 }
 
@@ -78,11 +68,11 @@ pub fn read_value(kind: Kind, word: &str) -> Result<Value, NumberFault>
     match kind {
         Kind::Bool => read_bool(word),
         Kind::Void => read_void(word),
-        Kind::U8 => Ok(Value::U8(number_u8(word)?)),
-        Kind::U16 => Ok(Value::U16(number_u16(word)?)),
-        Kind::U32 => Ok(Value::U32(number_u32(word)?)),
-        Kind::U64 => Ok(Value::U64(number_u64(word)?)),
-        Kind::I32 => read_signed(word),
+        Kind::U8 => read_number(word).map(Value::U8),
+        Kind::U16 => read_number(word).map(Value::U16),
+        Kind::U32 => read_number(word).map(Value::U32),
+        Kind::U64 => read_number(word).map(Value::U64),
+        Kind::I32 => read_number(word).map(Value::I32),
     }
 }
 

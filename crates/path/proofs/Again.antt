@@ -8,7 +8,7 @@ use Rattle.path.specs.declared.step.Step.{Step}
 use Rattle.number.specs.Numbers.{worth}
 use Rattle.path.specs.Paths.{Steps, PathText, Unless, Fit, AllFit, shown_steps, shown_path}
 use Rattle.path.specs.Steps.{Number32, three, StepText, shown_step}
-use Rattle.number.proofs.Again.{numeral_decimal, worth_decimal}
+use Rattle.number.specs.Again.{numeral_decimal, worth_decimal}
 use Rattle.path.proofs.PathSteps.{step_lacks}
 use Rattle.path.proofs.Splits.{Lacks, first_lacks, rest_lacks, digits_lack}
 use Rattle.path.proofs.StepForms.{digit_first, first_is, pointer_only, element_only, row_text_only, free_text_only, row_only, free_only}

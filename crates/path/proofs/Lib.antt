@@ -1,5 +1,6 @@
 -- Lemmas of this crate.
 pub mod Again
 pub mod PathSteps
+pub mod Pieces
 pub mod Splits
 pub mod StepForms

@@ -40,3 +40,6 @@ digits_lack c xs h d i l e = omega (arith, d i l)
 
 pub digits_lack_low : (c : ℕ) (xs : List ℕ) → c < 48 → Digits xs → Lacks c xs
 digits_lack_low c xs h d i l e = omega (arith, d i l)
+
+pub lacks_nil : (c : ℕ) → Lacks c []
+lacks_nil c i l e = omega arith

@@ -1,5 +1,6 @@
 -- The four forms of a step: where a text is cut, it can be read in one way only.
-use Rattle.std.proofs.Common.{◌≡◌, ℕ, ◌^◌, ◌<◌, ◌≤◌, List, [], ◌∷◌, ◌++◌, length, get_or, Ok, Err, Result, sym, ap, ◌∙◌, subst, inl, inr, arith, lit<}
+use Rattle.std.proofs.Common.{◌≡◌, ℕ, ◌<◌, ◌≤◌, List, [], ◌∷◌, ◌++◌, length, get_or, Ok, Err, Result, sym, ap, ◌∙◌, subst, inl, inr, arith, lit<}
+use Rattle.std.specs.Result.{IsErrAnd}
 use Rattle.number.specs.declared.decimal.NumberFault.{NumberFault}
 use Rattle.number.specs.declared.decimal.NumberFault.TheVariants.{NoDigits, TooLarge}
 use Rattle.path.specs.declared.step.PathFault.{PathFault}
@@ -35,9 +36,6 @@ pub no_second : (bs ks rest : List ℕ) → bs ≡ ks ++ (58 ∷ rest) → Lacks
 no_second bs ks rest e l m s (ls, fs, qs, g, a, b, c, q) =
     let p = same_split 58 ls (fs ++ (58 ∷ qs)) ks rest (digits_lack 58 ls (lit< tt) a.0.1) l (sym g ∙ e) in
     at_cut 58 fs qs (subst (Lacks 58) (sym p.1) m)
-
-pub free_made : (bs ks rest es ps : List ℕ) (k e p : ℕ) → bs ≡ ks ++ (58 ∷ rest) → rest ≡ es ++ (58 ∷ ps) → ReadsBelow (2 ^ 32) ks (Ok k) → ReadsBelow (2 ^ 32) es (Ok e) → ReadsBelow (2 ^ 32) ps (Ok p) → Free bs (three k e p)
-free_made bs ks rest es ps k e p f g x y z = (ks, es, ps, f ∙ ap (λ l. ks ++ (58 ∷ l)) g, (x.0, x.1), (y.0, y.1), (z.0, z.1), cc (x.2, y.2, z.2))
 
 -- the first byte says which form a step has
 pub digit_first : (bs : List ℕ) (s : Step) → Free bs s → get_or bs 0 0 ≤ 57
@@ -89,3 +87,8 @@ free_text_only bs s a b c (inr (inr (inr p))) = p
 pub exactly_like : {P Q : Step → Type 0} (r : Result Step PathFault) → ((s : Step) → P s → Q s) → ((s : Step) → Q s → P s) → Exactly P r → Exactly Q r
 exactly_like (Ok s) f g h = f s h
 exactly_like (Err e) f g h = λ s q. h s (g s q)
+
+-- the exit of a `?`, whatever the fault
+pub refuses : (P : Step → Type 0) (Q : PathFault → Type 0) (r : Result Step PathFault) → IsErrAnd r Q → ((s : Step) → P s → ⊥) → Exactly P r
+refuses P Q (Ok s) h none = absurd h
+refuses P Q (Err e) h none = none

@@ -18,30 +18,24 @@ fn read_steps(heap: Global, word: &str) -> Result<Vec<Step>, PathFault>
     ensures { MatchResult result (λ v. Steps (47 ∷ word.now) v.items) (λ e. Unless e ((ss : List AStep) → Steps (47 ∷ word.now) ss → ⊥)) }
 {
     let mut steps = Vec::new(heap);
-    let mut rest = word;
-    while let Some((piece, after)) = rest.split_once('/') {
-        let step = read_step(piece)?;
-        steps.push(step)?;
-        rest = after;
+    for piece in word.split('/') {
+        steps.push(read_step(piece)?)?;
     }
-    let last = read_step(rest)?;
-    steps.push(last)?;
     Ok(steps)
 }
 
 pub fn read_place(heap: Global, word: &str) -> Result<Place, PathFault>
     ensures { MatchResult result (λ p. PathText word.now p.steps.items) (λ e. Unless e ((ss : List AStep) → PathText word.now ss → ⊥)) }
 {
-    let Some(rest) = word.strip_prefix('/') else {
-        return Err(PathFault::NoSlash);
-    };
+    let rest = word.strip_prefix('/').ok_or(PathFault::NoSlash)?;
     if rest.is_empty() {
         return Ok(Place {
             steps: Vec::new(heap),
         });
     }
-    let steps = read_steps(heap, rest)?;
-    Ok(Place { steps })
+    Ok(Place {
+        steps: read_steps(heap, rest)?,
+    })
 }
 
 impl fmt::Display for Place {

@@ -3,12 +3,13 @@ ghost use Rattle.std.specs.Prelude.{◌≡◌, Some};
 ghost use Rattle.path.specs.Steps.{Pointer, Element, Row, Free, StepText, Exactly, shown_step};
 ghost use Rattle.path.specs.declared.step.PathFault.TheVariants.{Memory};
 
-use number::decimal::{NumberFault, number_u32};
+use number::decimal::{NumberFault, read_number};
 use std::alloc::{AllocError, AllocFailed};
 use std::fmt;
 
-// Kind 0 is a pointer of a struct, 1 an element of a list of pointers, 2 a pointer of a row of a struct list. Others lead nowhere.
-#[derive(Clone, Copy)]
+// Kind 0 is a pointer of a struct, 1 an element of a list of pointers, 2 a pointer of a row of a struct list. Others lead nowhere: a path may
+// name any numbers, and a call refuses it by a ruling, so the kind is a number and no enum.
+#[derive(Clone, Copy, Debug, PartialEq, Eq, Default)]
 pub struct Step {
     pub kind: u32,
     pub element: u32,
@@ -16,7 +17,7 @@ pub struct Step {
 }
 
 // Why a word is no path.
-#[derive(Clone, Copy)]
+#[derive(Clone, Copy, Debug, PartialEq, Eq)]
 pub enum PathFault {
     NoSlash,
     BadStep,
@@ -52,56 +53,42 @@ impl From<NumberFault> for PathFault {
 fn pointer_step(digits: &str) -> Result<Step, PathFault>
     ensures { Exactly (Pointer digits.now) result }
 {
-    let pointer = number_u32(digits)?;
     Ok(Step {
-        kind: 0,
-        element: 0,
-        pointer,
+        pointer: read_number(digits)?,
+        ..Step::default()
     })
 }
 
 fn element_step(digits: &str) -> Result<Step, PathFault>
     ensures { Exactly (Element digits.now) result }
 {
-    let element = number_u32(digits)?;
     Ok(Step {
         kind: 1,
-        element,
-        pointer: 0,
+        element: read_number(digits)?,
+        ..Step::default()
     })
 }
 
 fn row_step(word: &str) -> Result<Step, PathFault>
     ensures { Exactly (Row word.now) result }
 {
-    let Some((row, place)) = word.split_once('p') else {
-        return Err(PathFault::BadStep);
-    };
-    let element = number_u32(row)?;
-    let pointer = number_u32(place)?;
+    let (row, place) = word.split_once('p').ok_or(PathFault::BadStep)?;
     Ok(Step {
         kind: 2,
-        element,
-        pointer,
+        element: read_number(row)?,
+        pointer: read_number(place)?,
     })
 }
 
 fn free_step(word: &str) -> Result<Step, PathFault>
     ensures { Exactly (Free word.now) result }
 {
-    let Some((first, rest)) = word.split_once(':') else {
-        return Err(PathFault::BadStep);
-    };
-    let Some((second, third)) = rest.split_once(':') else {
-        return Err(PathFault::BadStep);
-    };
-    let kind = number_u32(first)?;
-    let element = number_u32(second)?;
-    let pointer = number_u32(third)?;
+    let (first, rest) = word.split_once(':').ok_or(PathFault::BadStep)?;
+    let (second, third) = rest.split_once(':').ok_or(PathFault::BadStep)?;
     Ok(Step {
-        kind,
-        element,
-        pointer,
+        kind: read_number(first)?,
+        element: read_number(second)?,
+        pointer: read_number(third)?,
     })
 }
 

@@ -1,7 +1,8 @@
 // What a command would do, in words.
 use crate::action::Deed;
-use crate::shown::words;
+use crate::shown::Counted;
 use script::command::{Base, Command, Layer, SourceSpec};
+use script::read::Numbered;
 use std::fmt;
 
 // A command, to be shown as what it would do.
@@ -15,9 +16,9 @@ pub struct Origin<'a>(pub &'a SourceSpec);
 impl fmt::Display for Origin<'_> {
     fn fmt<W: fmt::Write>(&self, f: &mut fmt::Formatter<W>) -> fmt::Result {
         match self.0.base {
-            Base::Slab { words: size, step } => {
-                let n = words(size);
-                write!(f, "take segments from a slab of {n} in steps of {step}")?;
+            Base::Slab { words, step } => {
+                let words = Counted(words, "word");
+                write!(f, "take segments from a slab of {words} in steps of {step}")?;
             }
             Base::Pages => write!(f, "take segments from eight pages of 256 words")?,
         }
@@ -25,8 +26,8 @@ impl fmt::Display for Origin<'_> {
             match *layer {
                 Layer::Scratch => write!(f, ", with scratch words first")?,
                 Layer::Quota { limit } => {
-                    let n = words(limit);
-                    write!(f, ", within a quota of {n}")?;
+                    let words = Counted(limit, "word");
+                    write!(f, ", within a quota of {words}")?;
                 }
             }
         }
@@ -38,21 +39,27 @@ impl fmt::Display for Plan<'_> {
     fn fmt<W: fmt::Write>(&self, f: &mut fmt::Formatter<W>) -> fmt::Result {
         match self.0 {
             Command::Case { name } => write!(f, "begin the case {name}"),
-            Command::Source(spec) => {
-                let origin = Origin(spec);
-                write!(f, "{origin}")
-            }
-            Command::Call(call) => {
-                let deed = Deed(call);
-                write!(f, "{deed}")
-            }
+            Command::Source(spec) => Origin(spec).fmt(f),
+            Command::Call(call) => Deed(call).fmt(f),
             Command::Dump => write!(f, "print every segment"),
             Command::Frame => write!(f, "print the framed bytes"),
             Command::Grant { minimum } => {
-                let n = words(*minimum);
-                write!(f, "ask the source for a segment of {n} at least")
+                let words = Counted(*minimum, "word");
+                write!(f, "ask the source for a segment of {words} at least")
             }
             Command::End => write!(f, "end the case"),
         }
+    }
+}
+
+// A command of a script, to be shown with the number of its line.
+#[derive(Clone, Copy)]
+pub struct Entry<'a>(pub &'a Numbered);
+
+impl fmt::Display for Entry<'_> {
+    fn fmt<W: fmt::Write>(&self, f: &mut fmt::Formatter<W>) -> fmt::Result {
+        let Numbered { line, command } = self.0;
+        let plan = Plan(command);
+        write!(f, "line {line}: {plan}")
     }
 }

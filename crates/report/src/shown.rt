@@ -1,60 +1,29 @@
-// Small texts that several messages use: a count with its noun, a place, a text in quotes.
+// Small texts that several messages use: a count with its noun, the sections of a struct, a place, a text in quotes.
 use path::place::Place;
 use std::fmt;
+use wire::sizes::StructSize;
 
-// A number with the noun that it counts.
+// A number with the noun that it counts, whose plural has an s.
 #[derive(Clone, Copy)]
-pub struct Counted {
-    pub count: u64,
-    pub one: &'static str,
-    pub many: &'static str,
-}
+pub struct Counted(pub u32, pub &'static str);
 
 impl fmt::Display for Counted {
     fn fmt<W: fmt::Write>(&self, f: &mut fmt::Formatter<W>) -> fmt::Result {
-        let count = self.count;
-        let noun = if count == 1 { self.one } else { self.many };
-        write!(f, "{count} {noun}")
+        let Counted(count, noun) = *self;
+        let plural = if count == 1 { "" } else { "s" };
+        write!(f, "{count} {noun}{plural}")
     }
 }
 
-pub fn data_words(count: u16) -> Counted {
-    Counted {
-        count: u64::from(count),
-        one: "data word",
-        many: "data words",
-    }
-}
+// The words of data and the pointers of a struct.
+#[derive(Clone, Copy)]
+pub struct Sections(pub StructSize);
 
-pub fn pointers(count: u16) -> Counted {
-    Counted {
-        count: u64::from(count),
-        one: "pointer",
-        many: "pointers",
-    }
-}
-
-pub fn rows(count: u32) -> Counted {
-    Counted {
-        count: u64::from(count),
-        one: "row",
-        many: "rows",
-    }
-}
-
-pub fn elements(count: u32) -> Counted {
-    Counted {
-        count: u64::from(count),
-        one: "element",
-        many: "elements",
-    }
-}
-
-pub fn words(count: u32) -> Counted {
-    Counted {
-        count: u64::from(count),
-        one: "word",
-        many: "words",
+impl fmt::Display for Sections {
+    fn fmt<W: fmt::Write>(&self, f: &mut fmt::Formatter<W>) -> fmt::Result {
+        let data = Counted(u32::from(self.0.data), "data word");
+        let pointers = Counted(u32::from(self.0.pointers), "pointer");
+        write!(f, "{data} and {pointers}")
     }
 }
 
@@ -64,11 +33,12 @@ pub struct At<'a>(pub &'a Place);
 
 impl fmt::Display for At<'_> {
     fn fmt<W: fmt::Write>(&self, f: &mut fmt::Formatter<W>) -> fmt::Result {
-        if self.0.steps.is_empty() {
-            return write!(f, "at the root");
-        }
         let place = self.0;
-        write!(f, "at {place}")
+        if place.steps.is_empty() {
+            write!(f, "at the root")
+        } else {
+            write!(f, "at {place}")
+        }
     }
 }
 
@@ -80,13 +50,10 @@ impl fmt::Display for Quote<'_> {
     fn fmt<W: fmt::Write>(&self, f: &mut fmt::Formatter<W>) -> fmt::Result {
         write!(f, "\"")?;
         for b in self.0 {
-            match *b {
-                b'"' => write!(f, "\\\"")?,
-                b'\\' => write!(f, "\\\\")?,
-                b' '..=b'~' => {
-                    let c = char::from(*b);
-                    write!(f, "{c}")?
-                }
+            let c = char::from(*b);
+            match c {
+                '"' | '\\' => write!(f, "\\{c}")?,
+                ' '..='~' => write!(f, "{c}")?,
                 _ => write!(f, "\\x{b:02x}")?,
             }
         }

@@ -1,7 +1,7 @@
 // The source of a case, put together from its base and layers and driven by the `grant` lines of the case.
 use pages::Pages;
 use quota::Quota;
-use report::command::Plan;
+use report::command::Entry;
 use scratch::Scratch;
 use script::command::{Base, Command, Layer, SourceSpec};
 use script::read::Numbered;
@@ -40,94 +40,61 @@ fn segments<S: Source>(rt: &HostRuntime, source: &S) -> anyhow::Result<()> {
     Ok(())
 }
 
-// One line of a case: a grant is made of the source, and any other call is said in words.
-fn line<S: Source>(rt: &HostRuntime, source: &mut S, numbered: &Numbered) -> anyhow::Result<()> {
-    let number = numbered.line;
-    let plan = Plan(&numbered.command);
-    println!(rt; "line {number}: {plan}")?;
-    if let Command::Grant { minimum } = &numbered.command {
-        grant(rt, source, *minimum)?;
-    }
-    Ok(())
+// What is to be done over a source and some of the layers that a case names.
+trait Task {
+    fn over<S: Source + Drop>(&self, source: S, layers: &[Layer]) -> anyhow::Result<()>;
 }
 
-// Drives the source by the lines of a case.
-fn drive<S: Source + Drop>(
-    rt: &HostRuntime,
-    mut source: S,
-    lines: &[Numbered],
-) -> anyhow::Result<()> {
-    let mut granted = false;
-    for numbered in lines {
-        if let Command::Grant { minimum: _ } = &numbered.command {
-            granted = true;
-        }
-        line(rt, &mut source, numbered)?;
-    }
-    if granted {
-        segments(rt, &source)?;
-    }
-    Ok(())
+// The lines of a case: each is said in words, and a grant is made of the source.
+#[derive(Drop)]
+struct Lines<'a> {
+    rt: &'a HostRuntime,
+    lines: &'a [Numbered],
 }
 
-// The next layer over a source, and then what `$next` makes of it; without one the source is driven.
-macro_rules! layered {
-    ($rt:expr, $source:expr, $layers:expr, $lines:expr, $at:expr, $next:path) => {
-        match $layers.get($at) {
-            None => drive($rt, $source, $lines),
-            Some(Layer::Scratch) => $next($rt, Scratch::new($source), $layers, $lines),
-            Some(Layer::Quota { limit }) => {
-                $next($rt, Quota::new($source, *limit as u64), $layers, $lines)
+impl Task for Lines<'_> {
+    fn over<S: Source + Drop>(&self, mut source: S, _layers: &[Layer]) -> anyhow::Result<()> {
+        let rt = self.rt;
+        for numbered in self.lines {
+            let entry = Entry(numbered);
+            println!(rt; "{entry}")?;
+            if let Command::Grant { minimum } = &numbered.command {
+                grant(rt, &mut source, *minimum)?;
             }
         }
-    };
+        if self.lines.iter().any(|numbered| matches!(&numbered.command, Command::Grant { .. })) {
+            segments(rt, &source)?;
+        }
+        Ok(())
+    }
 }
 
-fn with_three<S: Source + Drop>(
-    rt: &HostRuntime,
-    source: S,
-    _layers: &[Layer],
-    lines: &[Numbered],
-) -> anyhow::Result<()> {
-    drive(rt, source, lines)
+// A task under one layer more, if there is one.
+#[derive(Drop)]
+struct Layered<T>(T);
+
+impl<T: Task> Task for Layered<T> {
+    fn over<S: Source + Drop>(&self, source: S, layers: &[Layer]) -> anyhow::Result<()> {
+        match layers.split_first() {
+            None => self.0.over(source, layers),
+            Some((Layer::Scratch, rest)) => self.0.over(Scratch::new(source), rest),
+            Some((Layer::Quota { limit }, rest)) => {
+                self.0.over(Quota::new(source, u64::from(*limit)), rest)
+            }
+        }
+    }
 }
 
-fn with_two<S: Source + Drop>(
-    rt: &HostRuntime,
-    source: S,
-    layers: &[Layer],
-    lines: &[Numbered],
-) -> anyhow::Result<()> {
-    layered!(rt, source, layers, lines, 2, with_three)
-}
-
-fn with_one<S: Source + Drop>(
-    rt: &HostRuntime,
-    source: S,
-    layers: &[Layer],
-    lines: &[Numbered],
-) -> anyhow::Result<()> {
-    layered!(rt, source, layers, lines, 1, with_two)
-}
-
-fn with_none<S: Source + Drop>(
-    rt: &HostRuntime,
-    source: S,
-    layers: &[Layer],
-    lines: &[Numbered],
-) -> anyhow::Result<()> {
-    layered!(rt, source, layers, lines, 0, with_one)
-}
-
-// The lines of a case over the source that it names.
+// The lines of a case over the source that it names, which has three layers at most.
 pub fn run_case(rt: &HostRuntime, spec: &SourceSpec, lines: &[Numbered]) -> anyhow::Result<()> {
+    let task = Layered(Layered(Layered(Lines { rt, lines })));
     let layers = spec.layers.as_slice();
     match spec.base {
         Base::Slab { words: size, step } => {
             let size = size.min(SLAB_WORDS);
             let mut words: Vec<u64> = vec![in rt.alloc(); 0; size as usize]?;
-            with_none(rt, Slab::new(words.as_mut_slice(), step), layers, lines)
+            task.over(Slab::new(words.as_mut_slice(), step), layers)
         }
-        Base::Pages => with_none(rt, Pages::new(), layers, lines),
+        Base::Pages => task.over(Pages::new(), layers),
     }
 }

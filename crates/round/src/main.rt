@@ -8,7 +8,7 @@ mod drive;
 use anyhow::anyhow;
 use drive::run_case;
 use report::bad::Told;
-use report::command::Plan;
+use report::command::Entry;
 use script::command::Command;
 use script::read::{Numbered, Script, read_script};
 use std::process::ExitCode;
@@ -32,8 +32,7 @@ fn help(rt: &HostRuntime) -> anyhow::Result<()> {
 }
 
 fn asked(rt: &HostRuntime) -> anyhow::Result<Request> {
-    let mut args = env::args(rt)?;
-    let _program = args.next();
+    let mut args = env::args(rt)?.skip(1);
     let Some(verb) = args.next() else {
         return Ok(Request::Help);
     };
@@ -75,37 +74,25 @@ fn load(rt: &HostRuntime, file: &str) -> anyhow::Result<Script> {
 fn case_length(lines: &[Numbered]) -> usize
     ensures bound { result ≤ length lines.now }
 {
-    for (i, numbered) in lines.iter().enumerate() {
-        if let Command::Case { .. } | Command::End = &numbered.command {
-            return i;
-        }
-    }
-    lines.len()
+    lines
+        .iter()
+        .position(|numbered| matches!(&numbered.command, Command::Case { .. } | Command::End))
+        .unwrap_or(lines.len())
 }
 
-// The lines from one on, with those of its case where it names a source; how many were run.
-fn run_some(rt: &HostRuntime, lines: &[Numbered], at: usize) -> anyhow::Result<usize> {
-    let Some(numbered) = lines.get(at) else {
-        return Ok(0);
-    };
-    let line = numbered.line;
-    let plan = Plan(&numbered.command);
-    println!(rt; "line {line}: {plan}")?;
-    let Command::Source(spec) = &numbered.command else {
-        return Ok(1);
-    };
-    let rest = &lines[at + 1..lines.len()];
-    let n = case_length(rest);
-    run_case(rt, spec, &rest[0..n])?;
-    Ok(1 + n)
-}
-
+// Says each line, and runs those of a case over the source that it names.
 fn run(rt: &HostRuntime, file: &str) -> anyhow::Result<()> {
     let script = load(rt, file)?;
-    let lines = script.commands.as_slice();
-    let mut at = 0;
-    for _ in 0..lines.len() {
-        at = run_some(rt, lines, at)?.saturating_add(at);
+    let mut rest = script.commands.as_slice();
+    while let Some((numbered, after)) = rest.split_first() {
+        let entry = Entry(numbered);
+        println!(rt; "{entry}")?;
+        rest = after;
+        if let Command::Source(spec) = &numbered.command {
+            let (lines, others) = after.split_at(case_length(after));
+            run_case(rt, spec, lines)?;
+            rest = others;
+        }
     }
     Ok(())
 }

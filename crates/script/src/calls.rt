@@ -1,186 +1,97 @@
-// The calls of a case: one reader for each group of calls with like arguments.
+// The calls of a case, each read from the words behind its verb.
+use crate::args::Args;
 use crate::command::{Action, Call};
-use line::args::{ends_at, kind_at, place_at, u16_at, u32_at, value_at, word_at};
 use line::fault::{Fault, Problem};
+use number::home::{Home, NumberAt};
+use number::kind::Kind;
 use std::alloc::Global;
-use text::hex::{TextFault, read_hex};
+use text::hex::read_hex;
 use text::quoted::read_quoted;
 
-fn struct_action(words: &[&str]) -> Result<Action, Problem> {
-    let data = u16_at(words, 2)?;
-    let pointers = u16_at(words, 3)?;
-    ends_at(words, 4)?;
-    Ok(Action::Struct { data, pointers })
+// The kind of a number, and its index at its home.
+fn number_at(home: Home, args: &mut Args) -> Result<(Kind, NumberAt), Problem> {
+    let kind = args.kind()?;
+    let index = args.number()?;
+    Ok((kind, NumberAt { home, index }))
 }
 
-fn list_action(words: &[&str]) -> Result<Action, Problem> {
-    let code = u32_at(words, 2)?;
-    let count = u32_at(words, 3)?;
-    ends_at(words, 4)?;
-    Ok(Action::List { code, count })
+fn set_action(home: Home, args: &mut Args) -> Result<Action, Problem> {
+    let (kind, at) = number_at(home, args)?;
+    let value = args.value(kind)?;
+    Ok(Action::Set { at, value })
 }
 
-fn rows_action(words: &[&str]) -> Result<Action, Problem> {
-    let count = u32_at(words, 2)?;
-    let data = u16_at(words, 3)?;
-    let pointers = u16_at(words, 4)?;
-    ends_at(words, 5)?;
-    Ok(Action::Rows {
-        count,
-        data,
-        pointers,
-    })
-}
-
-fn grow_struct_action(words: &[&str]) -> Result<Action, Problem> {
-    let data = u16_at(words, 2)?;
-    let pointers = u16_at(words, 3)?;
-    ends_at(words, 4)?;
-    Ok(Action::GrowStruct { data, pointers })
-}
-
-fn grow_rows_action(words: &[&str]) -> Result<Action, Problem> {
-    let data = u16_at(words, 2)?;
-    let pointers = u16_at(words, 3)?;
-    ends_at(words, 4)?;
-    Ok(Action::GrowRows { data, pointers })
-}
-
-fn field_action(words: &[&str]) -> Result<Action, Problem> {
-    let kind = kind_at(words, 2)?;
-    let index = u32_at(words, 3)?;
-    let value = value_at(words, 4, kind)?;
-    ends_at(words, 5)?;
-    Ok(Action::Field { index, value })
-}
-
-fn row_action(words: &[&str]) -> Result<Action, Problem> {
-    let row = u32_at(words, 2)?;
-    let kind = kind_at(words, 3)?;
-    let index = u32_at(words, 4)?;
-    let value = value_at(words, 5, kind)?;
-    ends_at(words, 6)?;
-    Ok(Action::Row { row, index, value })
-}
-
-fn item_action(words: &[&str]) -> Result<Action, Problem> {
-    let kind = kind_at(words, 2)?;
-    let index = u32_at(words, 3)?;
-    let value = value_at(words, 4, kind)?;
-    ends_at(words, 5)?;
-    Ok(Action::Item { index, value })
-}
-
-fn clear_action(words: &[&str]) -> Result<Action, Problem> {
-    ends_at(words, 2)?;
-    Ok(Action::Clear)
-}
-
-fn get_field_action(words: &[&str]) -> Result<Action, Problem> {
-    let kind = kind_at(words, 2)?;
-    let index = u32_at(words, 3)?;
-    ends_at(words, 4)?;
-    Ok(Action::GetField { kind, index })
-}
-
-fn get_row_action(words: &[&str]) -> Result<Action, Problem> {
-    let row = u32_at(words, 2)?;
-    let kind = kind_at(words, 3)?;
-    let index = u32_at(words, 4)?;
-    ends_at(words, 5)?;
-    Ok(Action::GetRow { row, kind, index })
-}
-
-fn get_item_action(words: &[&str]) -> Result<Action, Problem> {
-    let kind = kind_at(words, 2)?;
-    let index = u32_at(words, 3)?;
-    ends_at(words, 4)?;
-    Ok(Action::GetItem { kind, index })
+fn get_action(home: Home, args: &mut Args) -> Result<Action, Problem> {
+    let (kind, at) = number_at(home, args)?;
+    Ok(Action::Get { at, kind })
 }
 
 // Blank, or blank up to a comment.
 fn is_blank(rest: &[u8]) -> bool {
-    for b in rest {
-        match *b {
-            b'#' => return true,
-            b' ' | b'\t' | b'\r' => {}
-            _ => return false,
+    rest.iter()
+        .find(|b| !matches!(b, b' ' | b'\t' | b'\r'))
+        .is_none_or(|b| *b == b'#')
+}
+
+fn quoted_bytes(heap: Global, text: &[u8]) -> Result<Vec<u8>, Fault> {
+    let (bytes, used) = read_quoted(heap, text)?;
+    if is_blank(&text[used..]) {
+        Ok(bytes)
+    } else {
+        Err(Fault::AfterText)
+    }
+}
+
+// A text in quotes, which stands behind the words, or in hex, which is the next word.
+fn text_action(heap: Global, args: &mut Args) -> Result<Action, Problem> {
+    let at = args.at;
+    let read = match args.quoted {
+        Some(rest) => {
+            args.end()?;
+            quoted_bytes(heap, rest.as_bytes())
         }
-    }
-    true
-}
-
-fn text_fault(fault: TextFault) -> Fault {
-    match fault {
-        TextFault::BadHex => Fault::BadHex,
-        TextFault::NoEnd => Fault::NoEndOfText,
-        TextFault::BadEscape => Fault::BadEscape,
-        TextFault::Memory => Fault::Memory,
-    }
-}
-
-fn quoted_action(heap: Global, words: &[&str], rest: &str) -> Result<Action, Problem> {
-    ends_at(words, 2)?;
-    let raw = rest.as_bytes();
-    match read_quoted(heap, raw) {
-        Ok((bytes, used)) => {
-            if !is_blank(&raw[used..]) {
-                return Err(Fault::AfterText.at(2));
-            }
-            Ok(Action::Text { bytes })
+        None => {
+            let word = args.word()?;
+            args.end()?;
+            read_hex(heap, word).map_err(Fault::from)
         }
-        Err(e) => Err(text_fault(e).at(2)),
-    }
-}
-
-fn hex_action(heap: Global, words: &[&str]) -> Result<Action, Problem> {
-    let word = word_at(words, 2)?;
-    ends_at(words, 3)?;
-    match read_hex(heap, word) {
-        Ok(bytes) => Ok(Action::Text { bytes }),
-        Err(e) => Err(text_fault(e).at(2)),
-    }
-}
-
-fn text_action(heap: Global, words: &[&str], quoted: Option<&str>) -> Result<Action, Problem> {
-    match quoted {
-        Some(rest) => quoted_action(heap, words, rest),
-        None => hex_action(heap, words),
-    }
+    };
+    let bytes = read.map_err(|fault| fault.at(at))?;
+    Ok(Action::Text { bytes })
 }
 
 // The action that the line's first word names.
-fn read_action(
-    heap: Global,
-    verb: &str,
-    words: &[&str],
-    quoted: Option<&str>,
-) -> Result<Action, Problem> {
+fn read_action(heap: Global, verb: &str, args: &mut Args) -> Result<Action, Problem> {
     match verb {
-        "struct" => struct_action(words),
-        "list" => list_action(words),
-        "rows" => rows_action(words),
-        "grow-struct" => grow_struct_action(words),
-        "grow-rows" => grow_rows_action(words),
-        "field" => field_action(words),
-        "row" => row_action(words),
-        "item" => item_action(words),
-        "text" => text_action(heap, words, quoted),
-        "clear" => clear_action(words),
-        "get-field" => get_field_action(words),
-        "get-row" => get_row_action(words),
-        "get-item" => get_item_action(words),
+        "struct" => Ok(Action::Struct(args.size()?)),
+        "list" => {
+            let code = args.number()?;
+            let count = args.number()?;
+            Ok(Action::List { code, count })
+        }
+        "rows" => {
+            let count = args.number()?;
+            let size = args.size()?;
+            Ok(Action::Rows { count, size })
+        }
+        "grow-struct" => Ok(Action::GrowStruct(args.size()?)),
+        "grow-rows" => Ok(Action::GrowRows(args.size()?)),
+        "field" => set_action(Home::Field, args),
+        "row" => set_action(Home::Row(args.number()?), args),
+        "item" => set_action(Home::Item, args),
+        "text" => text_action(heap, args),
+        "clear" => Ok(Action::Clear),
+        "get-field" => get_action(Home::Field, args),
+        "get-row" => get_action(Home::Row(args.number()?), args),
+        "get-item" => get_action(Home::Item, args),
         _ => Err(Fault::UnknownWord.at(0)),
     }
 }
 
-pub fn read_call(
-    heap: Global,
-    verb: &str,
-    words: &[&str],
-    quoted: Option<&str>,
-) -> Result<Call, Problem> {
-    let place = place_at(heap, words, 1)?;
-    let action = read_action(heap, verb, words, quoted)?;
+// A call: its place, and the action with its arguments, which end the line.
+pub fn read_call(heap: Global, verb: &str, args: &mut Args) -> Result<Call, Problem> {
+    let place = args.place(heap)?;
+    let action = read_action(heap, verb, args)?;
+    args.end()?;
     Ok(Call { place, action })
 }

@@ -1,61 +1,21 @@
 // The commands of a script: cases, their sources and their calls.
+use number::home::NumberAt;
 use number::kind::{Kind, Value};
 use path::place::Place;
+use wire::sizes::StructSize;
 
 // What a call does at its place.
 #[derive(Drop)]
 pub enum Action {
-    Struct {
-        data: u16,
-        pointers: u16,
-    },
-    List {
-        code: u32,
-        count: u32,
-    },
-    Rows {
-        count: u32,
-        data: u16,
-        pointers: u16,
-    },
-    GrowStruct {
-        data: u16,
-        pointers: u16,
-    },
-    GrowRows {
-        data: u16,
-        pointers: u16,
-    },
-    Field {
-        index: u32,
-        value: Value,
-    },
-    Row {
-        row: u32,
-        index: u32,
-        value: Value,
-    },
-    Item {
-        index: u32,
-        value: Value,
-    },
-    Text {
-        bytes: Vec<u8>,
-    },
+    Struct(StructSize),
+    List { code: u32, count: u32 },
+    Rows { count: u32, size: StructSize },
+    GrowStruct(StructSize),
+    GrowRows(StructSize),
+    Set { at: NumberAt, value: Value },
+    Text { bytes: Vec<u8> },
     Clear,
-    GetField {
-        kind: Kind,
-        index: u32,
-    },
-    GetRow {
-        row: u32,
-        kind: Kind,
-        index: u32,
-    },
-    GetItem {
-        kind: Kind,
-        index: u32,
-    },
+    Get { at: NumberAt, kind: Kind },
 }
 
 #[derive(Drop)]
@@ -65,13 +25,13 @@ pub struct Call {
 }
 
 // Where the words of a case come from, before its layers.
-#[derive(Clone, Copy)]
+#[derive(Clone, Copy, Debug, PartialEq, Eq)]
 pub enum Base {
     Slab { words: u32, step: u32 },
     Pages,
 }
 
-#[derive(Clone, Copy)]
+#[derive(Clone, Copy, Debug, PartialEq, Eq)]
 pub enum Layer {
     Scratch,
     Quota { limit: u32 },

@@ -1,10 +1,10 @@
 // A whole script: each line is a command, is blank, or has a problem that is noted with its line.
+use crate::args::Args;
 use crate::calls::read_call;
 use crate::command::Command;
 use crate::source::read_source;
-use line::args::{ends_at, u32_at, word_at};
 use line::fault::{Fault, Problem};
-use line::stage::{Sort, Stage, sort_of, take_turn};
+use line::stage::{Sort, Stage, Turn, sort_of, take_turn};
 use std::alloc::{AllocError, Global};
 use text::cut::{Line, cut_line};
 
@@ -29,53 +29,45 @@ pub struct Script {
     pub bad: Vec<BadLine>,
 }
 
-fn read_case(heap: Global, words: &[&str]) -> Result<Command, Problem> {
-    let word = word_at(words, 1)?;
-    ends_at(words, 2)?;
-    let name = String::from_str(heap, word)?;
-    Ok(Command::Case { name })
-}
-
-fn read_grant(words: &[&str]) -> Result<Command, Problem> {
-    let minimum = u32_at(words, 1)?;
-    ends_at(words, 2)?;
-    Ok(Command::Grant { minimum })
-}
-
-fn read_alone(words: &[&str], command: Command) -> Result<Command, Problem> {
-    ends_at(words, 1)?;
-    Ok(command)
-}
-
+// The command of a line that has words.
 pub fn read_command(heap: Global, line: &Line) -> Result<Command, Problem> {
-    let words = line.words.as_slice();
-    let verb = word_at(words, 0)?;
-    if let Sort::Unknown = sort_of(verb) {
+    let mut args = Args {
+        words: line.words.as_slice(),
+        quoted: line.quoted,
+        at: 0,
+    };
+    let verb = args.word()?;
+    if sort_of(verb) == Sort::Unknown {
         return Err(Fault::UnknownWord.at(0));
     }
-    if line.quoted.is_some() && verb != "text" {
-        return Err(Fault::UnexpectedText.at(words.len()));
+    if args.quoted.is_some() && verb != "text" {
+        return Err(Fault::UnexpectedText.at(args.words.len()));
     }
-    match verb {
-        "case" => read_case(heap, words),
-        "source" => Ok(Command::Source(read_source(heap, words)?)),
-        "dump" => read_alone(words, Command::Dump),
-        "frame" => read_alone(words, Command::Frame),
-        "grant" => read_grant(words),
-        "end" => read_alone(words, Command::End),
-        _ => Ok(Command::Call(read_call(heap, verb, words, line.quoted)?)),
-    }
+    let command = match verb {
+        "case" => {
+            let word = args.word()?;
+            args.end()?;
+            Command::Case {
+                name: String::from_str(heap, word)?,
+            }
+        }
+        "source" => Command::Source(read_source(heap, &mut args)?),
+        "dump" => Command::Dump,
+        "frame" => Command::Frame,
+        "grant" => Command::Grant {
+            minimum: args.number()?,
+        },
+        "end" => Command::End,
+        _ => Command::Call(read_call(heap, verb, &mut args)?),
+    };
+    args.end()?;
+    Ok(command)
 }
 
 // The word that a problem is about, or the last one where a word is missing.
 fn blamed(heap: Global, words: &[&str], at: usize) -> Result<String, AllocError> {
-    match words.get(at) {
-        Some(word) => String::from_str(heap, word),
-        None => match words.last() {
-            Some(word) => String::from_str(heap, word),
-            None => Ok(String::new(heap)),
-        },
-    }
+    let word = words.get(at).or_else(|| words.last());
+    String::from_str(heap, word.copied().unwrap_or(""))
 }
 
 impl Script {
@@ -84,28 +76,28 @@ impl Script {
         Ok(())
     }
 
-    // A line that has words, with what is wrong with its order.
+    // A line that has words, at its turn.
     fn take(
         &mut self,
         heap: Global,
         number: usize,
         line: &Line,
-        fault: Option<Fault>,
+        turn: Turn,
     ) -> Result<(), AllocError> {
-        let words = line.words.as_slice();
-        if let Some(fault) = fault {
-            return self.note(number, fault, blamed(heap, words, 0)?);
-        }
-        match read_command(heap, line) {
-            Ok(command) => {
-                self.commands.push(Numbered {
-                    line: number,
-                    command,
-                })?;
-                Ok(())
+        let read = match turn.fault {
+            Some(fault) => Err(fault.at(0)),
+            None => read_command(heap, line),
+        };
+        match read {
+            Ok(command) => self.commands.push(Numbered {
+                line: number,
+                command,
+            })?,
+            Err(Problem { fault, at }) => {
+                self.note(number, fault, blamed(heap, line.words.as_slice(), at)?)?
             }
-            Err(problem) => self.note(number, problem.fault, blamed(heap, words, problem.at)?),
         }
+        Ok(())
     }
 
     // A line at a stage, and the stage after it.
@@ -123,7 +115,7 @@ impl Script {
             return Ok(stage);
         };
         let turn = take_turn(stage, sort_of(verb));
-        self.take(heap, number, line, turn.fault)?;
+        self.take(heap, number, line, turn)?;
         Ok(turn.stage)
     }
 }
@@ -134,14 +126,13 @@ pub fn read_script(heap: Global, text: &str) -> Result<Script, AllocError> {
         bad: Vec::new(heap),
     };
     let mut stage = Stage::Outside;
-    let mut number: usize = 0;
-    for text_line in text.lines() {
-        number = number.saturating_add(1);
+    for (text_line, number) in text.lines().zip(1..) {
         let line = cut_line(heap, text_line)?;
         stage = script.turn(heap, number, &line, stage)?;
     }
-    if let Stage::Named = stage {
-        script.note(number, Fault::NoSource, String::from_str(heap, "the end")?)?;
+    if stage == Stage::Named {
+        let last = text.lines().count();
+        script.note(last, Fault::NoSource, String::from_str(heap, "the end")?)?;
     }
     Ok(script)
 }

@@ -13,29 +13,21 @@ pub struct Line<'a> {
 fn before_comment(line: &str) -> &str
     ensures { Uncommented line.now result.now }
 {
-    match line.split_once('#') {
-        Some((head, _)) => head,
-        None => line,
-    }
+    line.split_once('#').map_or(line, |(head, _)| head)
 }
 
 // What stands before a comment or an opening quote, and what stands behind that quote.
 pub fn split_quote(line: &str) -> (&str, Option<&str>)
     ensures { CutAt line.now result.0.now result.1 }
 {
-    if let Some((head, rest)) = line.split_once('"') {
-        if !head.contains('#') {
-            return (head, Some(rest));
-        }
+    match line.split_once('"') {
+        Some((head, rest)) if !head.contains('#') => (head, Some(rest)),
+        _ => (before_comment(line), None),
     }
-    (before_comment(line), None)
 }
 
 pub fn cut_line<'a>(heap: Global, line: &'a str) -> Result<Line<'a>, AllocError> {
     let (head, quoted) = split_quote(line);
-    let mut words = Vec::new(heap);
-    for word in head.split_whitespace() {
-        words.push(word)?;
-    }
+    let words = head.split_whitespace().collect(heap)?;
     Ok(Line { words, quoted })
 }

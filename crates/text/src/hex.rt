@@ -1,12 +1,12 @@
 // The bytes of a text in hex, two digits a byte, or `-` for none.
-ghost use Rattle.std.specs.Prelude.{◌≡◌, ℕ, List, MatchResult};
+ghost use Rattle.std.specs.Prelude.{◌≡◌, ℕ, ◌≤◌, List, length, MatchResult, slice_index};
 ghost use Rattle.text.specs.Texts.{hex_digit, byte_of, HexPairs, HexText, Unless};
 ghost use Rattle.text.specs.declared.hex.TextFault.TheVariants.{Memory};
 
 use std::alloc::{AllocError, AllocFailed, Global};
 
 // Why a word is no text.
-#[derive(Clone, Copy)]
+#[derive(Clone, Copy, Debug, PartialEq, Eq)]
 pub enum TextFault {
     BadHex,
     NoEnd,
@@ -44,8 +44,15 @@ pub fn hex_digit(b: u8) -> Option<u8>
 pub fn hex_byte(high: u8, low: u8) -> Option<u8>
     ensures { result ≡ byte_of high low }
 {
-    match (hex_digit(high), hex_digit(low)) {
-        (Some(h), Some(l)) => Some(16 * h + l),
+    Some(16 * hex_digit(high)? + hex_digit(low)?)
+}
+
+// A last digit alone writes no byte.
+fn pair_byte(pair: &[u8]) -> Option<u8>
+    ensures { length pair.now ≤ 2 → result ≡ byte_of (slice_index pair.now 0) (slice_index pair.now 1) }
+{
+    match pair {
+        [high, low] => hex_byte(*high, *low),
         _ => None,
     }
 }
@@ -54,16 +61,8 @@ fn hex_pairs(heap: Global, text: &[u8]) -> Result<Vec<u8>, TextFault>
     ensures { MatchResult result (λ v. HexPairs text.now v.items) (λ e. Unless e ((vs : List ℕ) → HexPairs text.now vs → ⊥)) }
 {
     let mut bytes = Vec::new(heap);
-    let mut at = 0;
-    while at < text.len() {
-        if text.len() - at < 2 {
-            return Err(TextFault::BadHex);
-        }
-        let Some(b) = hex_byte(text[at], text[at + 1]) else {
-            return Err(TextFault::BadHex);
-        };
-        bytes.push(b)?;
-        at += 2;
+    for pair in text.chunks(2) {
+        bytes.push(pair_byte(pair).ok_or(TextFault::BadHex)?)?;
     }
     Ok(bytes)
 }

@@ -7,69 +7,57 @@ use crate::hex::{TextFault, hex_byte};
 use std::alloc::Global;
 
 // What a text in quotes goes on with: the closing quote, or a byte, with how many bytes spell it.
-#[derive(Clone, Copy)]
+#[derive(Clone, Copy, Debug, PartialEq, Eq)]
 pub enum Letter {
     Close,
     Byte(u8, usize),
-    Bad(TextFault),
 }
 
-fn hex_letter(high: u8, low: u8) -> Letter
+fn hex_letter(high: u8, low: u8) -> Result<Letter, TextFault>
     ensures { result ≡ hexed (byte_of high low) }
 {
-    match hex_byte(high, low) {
-        Some(b) => Letter::Byte(b, 4),
-        None => Letter::Bad(TextFault::BadEscape),
+    let byte = hex_byte(high, low).ok_or(TextFault::BadEscape)?;
+    Ok(Letter::Byte(byte, 4))
+}
+
+// After a backslash.
+fn escape(text: &[u8]) -> Result<Letter, TextFault>
+    ensures { result ≡ escaped (slice_index text.now 0) (slice_index text.now 1) (slice_index text.now 2) }
+{
+    match text {
+        [b'"', ..] => Ok(Letter::Byte(b'"', 2)),
+        [b'\\', ..] => Ok(Letter::Byte(b'\\', 2)),
+        [b'x', high, low, ..] => hex_letter(*high, *low),
+        _ => Err(TextFault::BadEscape),
     }
 }
 
-// The byte at an index, and 0, which spells nothing here, past the end.
-fn byte_at(text: &[u8], i: usize) -> u8
-    ensures { result ≡ slice_index text.now i }
-{
-    if i < text.len() { text[i] } else { 0 }
-}
-
-// After a backslash: the byte behind it, and the two after that.
-fn escape(mark: u8, high: u8, low: u8) -> Letter
-    ensures { result ≡ escaped mark high low }
-{
-    match mark {
-        b'"' => Letter::Byte(b'"', 2),
-        b'\\' => Letter::Byte(b'\\', 2),
-        b'x' => hex_letter(high, low),
-        _ => Letter::Bad(TextFault::BadEscape),
-    }
-}
-
-fn next_letter(text: &[u8]) -> Letter
+fn next_letter(text: &[u8]) -> Result<Letter, TextFault>
     ensures is { result ≡ letter_of text.now }
     ensures used { Used (length text.now) result }
 {
-    if text.is_empty() {
-        return Letter::Bad(TextFault::NoEnd);
-    }
-    match text[0] {
-        b'"' => Letter::Close,
-        b'\\' => escape(byte_at(text, 1), byte_at(text, 2), byte_at(text, 3)),
-        b => Letter::Byte(b, 1),
+    match text {
+        [] => Err(TextFault::NoEnd),
+        [b'"', ..] => Ok(Letter::Close),
+        [b'\\', rest @ ..] => escape(rest),
+        [byte, ..] => Ok(Letter::Byte(*byte, 1)),
     }
 }
 
-// Reads from behind the opening quote. Answers the bytes, and how many were used, the closing quote among them.
+// Reads from behind the opening quote. Answers the bytes, and how many were used, the closing quote among them; so the count is kept, and no
+// slice that gets shorter.
 pub fn read_quoted(heap: Global, text: &[u8]) -> Result<(Vec<u8>, usize), TextFault>
     ensures { MatchResult result (λ q. Quoted text.now q.0.items q.1 × (q.1 ≤ length text.now)) (λ e. Unless e ((vs : List ℕ) (n : ℕ) → Quoted text.now vs n → ⊥)) }
 {
     let mut bytes = Vec::new(heap);
     let mut at = 0;
     loop {
-        match next_letter(&text[at..]) {
+        match next_letter(&text[at..])? {
             Letter::Close => return Ok((bytes, at + 1)),
-            Letter::Byte(b, used) => {
-                bytes.push(b)?;
+            Letter::Byte(byte, used) => {
+                bytes.push(byte)?;
                 at += used;
             }
-            Letter::Bad(fault) => return Err(fault),
         }
     }
 }

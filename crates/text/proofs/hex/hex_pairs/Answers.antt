@@ -1,19 +1,23 @@
 -- Each turn takes two digits.
-use Rattle.std.proofs.Common.{◌+◌, is_ok, sym, ap, ◌∙◌, subst, arith}
-use Rattle.std.proofs.ResultArms.{chosen}
-use Rattle.text.proofs.Pairs.{Sofar, too_short, bad_pair, one_more, all_read}
+use Rattle.std.proofs.Common.{◌∙◌, sym, subst, arith}
+use Rattle.std.specs.Slice.Iter.{chunks_rest}
+use Rattle.std.proofs.lemmas.Result.{err_from_is_err_and}
+use Rattle.text.proofs.Pairs.{Sofar, bad_pair, one_more, all_read, unless_any}
 use Rattle.text.proofs.hex.hex_pairs.Goals as goal
 
-pub returns-then-text-at-lt2 : goal.returns-then-text-at-lt2
-returns-then-text-at-lt2 c = too_short c.loop-at.invariant.1 (omega arith) (omega arith)
+pub returns-in_err-ok_or : goal.returns-in_err-ok_or
+returns-in_err-ok_or c =
+    let s = c.in-Some.ensures.steps in
+    let p = err_from_is_err_and c.from_residual.result c.from_residual.ensures.1 in
+    rw p.1 (unless_any p.0 (bad_pair c.loop-pair.invariant.sofar c.in-Some.pair.now (chunks_rest c.next.new.self) s.1.0 (omega (arith, s.1.1, c.loop-pair.invariant.by_two)) s.1.2 (sym (c.pair_byte.ensures (omega (arith, s.1.1, c.loop-pair.invariant.by_two))) ∙ c.in_err-ok_or.ensures.ok_part)))
 
-pub returns-in_default : goal.returns-in_default
-returns-in_default c = bad_pair c.loop-at.invariant.1 (omega arith) (sym c.hex_byte.ensures ∙ c.in_default.is)
-
-pub loop-at-preserved : goal.loop-at-preserved
-loop-at-preserved c =
-    let pushed = chosen _ _ _ _ c.push.ensures.items (ap is_ok c.in_ok-push.was) in
-    (omega arith, subst (λ l. Sofar c.args.text.now l (c.loop-at.at + 2)) (sym pushed) (one_more c.loop-at.invariant.1 _ (omega arith) (sym c.hex_byte.ensures ∙ c.in-Some.is)))
+pub loop-pair-preserved : goal.loop-pair-preserved
+loop-pair-preserved c =
+    let s = c.in-Some.ensures.steps in
+    record {
+      by_two = s.0 ∙ c.loop-pair.invariant.by_two;
+      sofar = subst (λ l. Sofar c.args.text.now l (chunks_rest c.next.new.self)) (sym c.in_ok-push.ensures.items) (one_more c.loop-pair.invariant.sofar c.in-Some.pair.now (chunks_rest c.next.new.self) s.1.0 (omega (arith, s.1.1, c.loop-pair.invariant.by_two)) s.1.2 _ (sym (c.pair_byte.ensures (omega (arith, s.1.1, c.loop-pair.invariant.by_two))) ∙ c.in_ok-ok_or.ensures.ok_part));
+    }
 
 pub returns : goal.returns
-returns c = all_read c.loop-at.invariant.1 (omega arith)
+returns c = all_read c.loop-pair.invariant.sofar c.in-None.ensures.steps.1.0

@@ -1,10 +1,8 @@
--- The bytes so far are those of the pairs before the index.
-use Rattle.std.proofs.Common.{◌-◌, ◌≤◌, length, vec_items}
+-- The bytes so far are those of the pairs before the rest.
+use Rattle.std.specs.Slice.Iter.{chunks_rest, chunks_size}
+use Rattle.std.proofs.Common.{◌≡◌}
 use Rattle.text.proofs.Pairs.{Sofar}
 use Rattle.text.proofs.hex.hex_pairs.Given as goal
 
-abbrev pub invariant-loop-at : goal.invariant-loop-at
-invariant-loop-at l = (l.at ≤ length l.text) × Sofar l.text (vec_items l.bytes) l.at
-
-abbrev pub decreases-loop-at : goal.decreases-loop-at
-decreases-loop-at l = length l.text - l.at
+abbrev pub invariant-loop-pair : goal.invariant-loop-pair
+invariant-loop-pair l = record { by_two : chunks_size l.pair-iterator ≡ 2; sofar : Sofar l.text l.bytes.items (chunks_rest l.pair-iterator) }

@@ -1,9 +1,0 @@
--- Where there is no word, there is no argument.
-use Rattle.std.proofs.lemmas.Result.{err_from_is_err_and}
-use Rattle.line.proofs.Places.{no_number}
-use Rattle.line.proofs.args.u16_at.Goals as goal
-
-pub returns-in_err-word_at : goal.returns-in_err-word_at
-returns-in_err-word_at c =
-    let p = err_from_is_err_and c.from_residual.result c.from_residual.ensures.1 in
-    rw p.1 (λ n. no_number _ _ c.in_err-word_at.ensures _ n)

@@ -1,3 +1,0 @@
--- Lemmas of this crate.
-pub mod Again
-pub mod Parsing
