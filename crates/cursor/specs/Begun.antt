@@ -1,11 +1,12 @@
 -- A cursor means the objects that are begun, the newest first, each with the pointer that comes next.
-use Rattle.std.specs.Prelude.{ℕ, zero, suc, ◌+◌, cond, List, [], ◌∷◌, ◌==◌, nat_lt, slice_index_or}
+use Rattle.std.specs.Prelude.{ℕ, ◌+◌, cond, List, map, reverse, ◌==◌, nat_lt}
 use Rattle.tree.specs.Value.{Shape, rows, pointers, slot}
 use Rattle.tree.specs.Shows.{Memory, Landing, land}
 use Rattle.tree.specs.Decode.{shape_at}
+use Rattle.walk.specs.declared.shape.Shape.TheVariants.{Structure}
+use Rattle.walk.specs.Spots.{spot_at}
 use Rattle.walk.specs.Landings.{landing_of}
 use Rattle.walk.specs.Shapes.{shape_meant}
-use Rattle.walk.specs.declared.shape.Shape.TheVariants as shapes
 use Rattle.cursor.specs.declared.Frame.{Frame}
 use Rattle.cursor.specs.declared.Cursor.{Cursor}
 
@@ -17,24 +18,21 @@ pub record Begun : Type 0 where
   pub pointer : ℕ
 
 abbrev pub begun_of : Frame → Begun
-begun_of f = record { place = landing_of f.landing; shape = shape_meant f.shape; row = f.row; pointer = f.pointer }
+begun_of f = record { place = landing_of f.held.landing; shape = shape_meant f.held.shape; row = f.row; pointer = f.pointer }
 
--- what stands past the last frame
+-- what stands where no object does
 abbrev pub no_frame : Frame
 no_frame = record {
-  landing = record { pointer = record { word = 0 }; segment = 0; start = 0; pad_segment = 0; pad_start = 0; pads = 0 };
-  shape = shapes.Structure (record { «data» = 0; pointers = 0 });
+  held = record {
+    landing = record { pointer = record { word = 0 }; start = spot_at 0 0; pad = spot_at 0 0; pads = 0 };
+    shape = Structure (record { «data» = 0; pointers = 0 });
+  };
   row = 0;
   pointer = 0;
 }
 
--- the first n frames, the last of them first
-abbrev pub newest : (n : ℕ) → List Frame → List Begun
-newest zero fs = []
-newest (suc n) fs = begun_of (slice_index_or fs n no_frame) ∷ newest n fs
-
 abbrev pub stack : Cursor → List Begun
-stack c = newest c.depth c.frames
+stack c = map begun_of (reverse c.frames.items)
 
 -- ## One object
 
@@ -42,9 +40,13 @@ stack c = newest c.depth c.frames
 abbrev pub first_row : Shape → ℕ
 first_row sh = cond (pointers sh == 0) (rows sh) 0
 
+-- the object of the shape that lies by l begins
+abbrev pub begun_as : Landing → Shape → Begun
+begun_as l sh = record { place = l; shape = sh; row = first_row sh; pointer = 0 }
+
 -- the object that lies by l begins
 abbrev pub begun_at : Memory → Landing → Begun
-begun_at H l = record { place = l; shape = shape_at H l; row = first_row (shape_at H l); pointer = 0 }
+begun_at H l = begun_as l (shape_at H l)
 
 -- the object of the slot in word w of segment g begins
 abbrev pub begun : Memory → (g w : ℕ) → Begun

@@ -2,34 +2,43 @@
 // memory of words, so whoever walks may change words that the walk has left.
 #![tactic(auto)]
 
-ghost use Rattle.std.specs.Prelude.{◌≡◌, ◌≤◌, length};
+ghost use Rattle.std.specs.Prelude.{◌≡◌, ◌≤◌, ⊤, length};
 
-use walk::landing::Landing;
-use walk::shape::Shape;
+use arrayvec::ArrayVec;
+use std::alloc::AllocError;
+use walk::held::Held;
 
 mod objects;
 mod walking;
 
-// An object begun: where it lies, its shape, and the row and the number of the pointer that comes next.
-#[derive(Clone, Copy)]
+// An object begun, and the row and the number of the pointer that comes next.
+#[derive(Clone, Copy, Debug, PartialEq, Eq)]
 pub struct Frame {
-    pub landing: Landing,
-    pub shape: Shape,
+    pub held: Held,
     pub row: u32,
     pub pointer: u32,
 }
 
 // At most 64 objects begun, each below the one before it.
-#[derive(Clone, Copy)]
+#[derive(Drop)]
 pub struct Cursor {
-    depth: usize,
-    frames: [Frame; 64],
-    ghost few: { depth ≤ 64 },
-    ghost whole: { length frames ≡ 64 },
+    frames: ArrayVec<Frame, 64>,
+    ghost few: { length frames.items ≤ 64 },
+}
+
+impl Clone for Cursor {
+    ghost is_clone = { λ a b. b.frames.items ≡ a.frames.items };
+
+    ghost is_infallible = { λ _. ⊤ };
+
+    fn clone(&self) -> Result<Cursor, AllocError> {
+        let frames = ArrayVec::try_from(self.frames.as_slice()).unwrap();
+        Ok(Cursor { frames })
+    }
 }
 
 // What a cursor met: a null pointer, an object that begins or ends, or an object with 64 others above it, which is passed over.
-#[derive(Clone, Copy)]
+#[derive(Clone, Copy, Debug, PartialEq, Eq)]
 pub enum Event {
     Null,
     Entered(Frame),

@@ -30,4 +30,4 @@ abbrev pub Handled : Event → (m n : List (List ℕ)) → Type 0
 Handled events.Null m n = n ≡ m
 Handled (events.Entered f) m n = n ≡ m
 Handled events.TooDeep m n = n ≡ m
-Handled (events.Left f) m n = n ≡ emptied m (landing_of f.landing) (shape_meant f.shape)
+Handled (events.Left f) m n = n ≡ emptied m (landing_of f.held.landing) (shape_meant f.held.shape)

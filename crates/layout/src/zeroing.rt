@@ -3,97 +3,75 @@ ghost use Rattle.std.specs.Prelude.{◌≡◌, map, length};
 ghost use Rattle.tree.specs.Words.{word as memory};
 ghost use Rattle.walk.specs.Landings.{landing_of};
 ghost use Rattle.walk.specs.Shapes.{shape_meant};
+ghost use Rattle.arena.specs.Steady.{Steady};
 ghost use Rattle.layout.specs.Clears.{Clears, Empties};
 ghost use Rattle.layout.specs.Emptied.{object_words, span_emptied, emptied, Handled};
 
 use arena::zeroing::zero_words;
 use cursor::{Cursor, Event};
 use segments::source::Source;
-use walk::landing::Landing;
+use walk::held::Held;
 use walk::shape::Shape;
+use walk::spot::Spot;
 
-// The words of the object: of a struct list the tag and as many as its pointer counts.
-fn object_words(landing: Landing, shape: Shape) -> u32
-    ensures value { result ≡ object_words landing.pointer.word (shape_meant shape) }
+// The words of the object: of a struct list the tag and as many as its pointer counts, whatever its tag says; so the shape alone does not tell.
+fn object_words(held: Held) -> u32
+    ensures value { result ≡ object_words held.landing.pointer.word (shape_meant held.shape) }
 {
-    match shape {
-        Shape::Structure(size) => size.total(),
-        Shape::Plain(element, n) => {
-            let bits = n as u64 * element.bits() as u64;
-            ((bits + 63) / 64) as u32
-        }
-        Shape::Composite(_, _) => landing.pointer.element_count() + 1,
+    match held.shape {
+        Shape::Structure(_) | Shape::Plain(_, _) => held.shape.words() as u32,
+        Shape::Composite(_, _) => held.landing.pointer.element_count() + 1,
     }
 }
 
-// Zeroes `n` words of segment `g` from word `start` on. Where 32 bits do not count the first of them, no segment of a builder reaches so
-// far, and nothing is done.
-fn zero_span<S: Source>(source: &mut S, g: usize, start: usize, n: u32)
-    ensures words { S.Reading.segments source.new ≡ span_emptied (S.Reading.segments source.old) g start n }
-    ensures offers { S.Source.offers source.new ≡ S.Source.offers source.old }
-    ensures first { S.Source.first source.new ≡ S.Source.first source.old }
-    ensures fault { S.Source.fault source.new ≡ S.Source.fault source.old }
+// Zeroes `n` words from the start on. Where 32 bits do not count the first of them, no segment of a builder reaches so far, and nothing
+// is done.
+fn zero_span<S: Source>(source: &mut S, start: Spot, n: u32)
+    ensures words { S.Reading.segments source.new ≡ span_emptied (S.Reading.segments source.old) start.segment start.word n }
+    ensures steady { Steady S.Source source.old source.new }
 {
-    if start < 1 << 32 {
-        zero_words(source, g, start as u32, n);
+    if let Ok(word) = u32::try_from(start.word) {
+        zero_words(source, start.segment, word, n);
     }
 }
 
 // Zeroes the object, then its landing pads.
-fn zero_spans<S: Source>(source: &mut S, landing: Landing, shape: Shape)
-    ensures words { S.Reading.segments source.new ≡ emptied (S.Reading.segments source.old) (landing_of landing) (shape_meant shape) }
-    ensures offers { S.Source.offers source.new ≡ S.Source.offers source.old }
-    ensures first { S.Source.first source.new ≡ S.Source.first source.old }
-    ensures fault { S.Source.fault source.new ≡ S.Source.fault source.old }
+fn zero_spans<S: Source>(source: &mut S, held: Held)
+    ensures words { S.Reading.segments source.new ≡ emptied (S.Reading.segments source.old) (landing_of held.landing) (shape_meant held.shape) }
+    ensures steady { Steady S.Source source.old source.new }
 {
-    zero_span(
-        source,
-        landing.segment,
-        landing.start,
-        object_words(landing, shape),
-    );
-    zero_span(
-        source,
-        landing.pad_segment,
-        landing.pad_start,
-        landing.pads.min(2) as u32,
-    );
+    let landing = held.landing;
+    zero_span(source, landing.start, object_words(held));
+    zero_span(source, landing.pad, landing.pads.min(2) as u32);
 }
 
 // Zeroes the object's own words, its tag among them, and its landing pads; not what lies below it.
-pub fn zero_landing<S: Source>(source: &mut S, landing: Landing, shape: Shape)
-    ensures words { S.Reading.segments source.new ≡ emptied (S.Reading.segments source.old) (landing_of landing) (shape_meant shape) }
-    ensures own { Empties (memory (S.Reading.segments source.old)) (memory (S.Reading.segments source.new)) (landing_of landing) (shape_meant shape) }
+pub fn zero_landing<S: Source>(source: &mut S, held: Held)
+    ensures words { S.Reading.segments source.new ≡ emptied (S.Reading.segments source.old) (landing_of held.landing) (shape_meant held.shape) }
+    ensures own { Empties (memory (S.Reading.segments source.old)) (memory (S.Reading.segments source.new)) (landing_of held.landing) (shape_meant held.shape) }
     ensures lengths { map length (S.Reading.segments source.new) ≡ map length (S.Reading.segments source.old) }
-    ensures offers { S.Source.offers source.new ≡ S.Source.offers source.old }
-    ensures first { S.Source.first source.new ≡ S.Source.first source.old }
-    ensures fault { S.Source.fault source.new ≡ S.Source.fault source.old }
+    ensures steady { Steady S.Source source.old source.new }
 {
-    zero_spans(source, landing, shape);
+    zero_spans(source, held);
 }
 
 // What zeroing does at an event: an object that the walk leaves is zeroed.
 fn handle<S: Source>(source: &mut S, event: Event)
     ensures words { Handled event (S.Reading.segments source.old) (S.Reading.segments source.new) }
-    ensures offers { S.Source.offers source.new ≡ S.Source.offers source.old }
-    ensures first { S.Source.first source.new ≡ S.Source.first source.old }
-    ensures fault { S.Source.fault source.new ≡ S.Source.fault source.old }
+    ensures steady { Steady S.Source source.old source.new }
 {
     if let Event::Left(frame) = event {
-        zero_landing(source, frame.landing, frame.shape);
+        zero_landing(source, frame.held);
     }
 }
 
-// Zeroes the object to which the slot in word `w` of segment `g` leads, with its tag and landing pads and all that lies below it. The
-// slot itself stays as it is.
-pub fn zero_object<S: Source>(source: &mut S, g: usize, w: usize)
-    ensures cleared { Clears (memory (S.Reading.segments source.old)) (memory (S.Reading.segments source.new)) g w }
+// Zeroes the object to which the slot leads, with its tag and landing pads and all that lies below it. The slot itself stays as it is.
+pub fn zero_object<S: Source>(source: &mut S, slot: Spot)
+    ensures cleared { Clears (memory (S.Reading.segments source.old)) (memory (S.Reading.segments source.new)) slot.segment slot.word }
     ensures lengths { map length (S.Reading.segments source.new) ≡ map length (S.Reading.segments source.old) }
-    ensures offers { S.Source.offers source.new ≡ S.Source.offers source.old }
-    ensures first { S.Source.first source.new ≡ S.Source.first source.old }
-    ensures fault { S.Source.fault source.new ≡ S.Source.fault source.old }
+    ensures steady { Steady S.Source source.old source.new }
 {
-    let mut cursor = Cursor::at(source, g, w);
+    let mut cursor = Cursor::at(source, slot);
     while let Some(event) = cursor.advance(source) {
         handle(source, event);
     }

@@ -19,7 +19,7 @@ not_struct kinds.Far n = λ e. omega arith
 not_struct kinds.Other n = λ e. omega arith
 
 -- only struct lists have code 7
-pub not_composite : (k : ElementSize) → (k ≡ codes.InlineComposite → ⊥) → (code_of k ≡ 7 → ⊥)
+not_composite : (k : ElementSize) → (k ≡ codes.InlineComposite → ⊥) → (code_of k ≡ 7 → ⊥)
 not_composite codes.Void n = λ e. omega arith
 not_composite codes.Bit n = λ e. omega arith
 not_composite codes.Byte n = λ e. omega arith
@@ -38,7 +38,7 @@ module _ (x t : ℕ) where
   shape_struct d p k e f =
       rw (e, f) (sym (cond-true (eqb (pointer_kind x) 0) (structure (data_words x) (pointer_words x)) listed (eq-eqb (pointer_kind x) 0 k)))
 
-  pub shape_list : (pointer_kind x ≡ 0 → ⊥) → listed ≡ shape_of x t
+  shape_list : (pointer_kind x ≡ 0 → ⊥) → listed ≡ shape_of x t
   unfolding shape_of
   shape_list k = sym (cond-false (eqb (pointer_kind x) 0) (structure (data_words x) (pointer_words x)) listed (ne_eqb (pointer_kind x) 0 k))
 
@@ -49,9 +49,13 @@ module _ (x t : ℕ) where
       (sym (cond-true (eqb (list_code x) 7) (composite (offset_field t) (data_words t) (pointer_words t)) (plain (element_of_code (list_code x)) (list_count x)) (eq-eqb (list_code x) 7 c)) ∙
       shape_list k)
 
-  pub shape_plain : (c n : ℕ) → (pointer_kind x ≡ 0 → ⊥) → (c ≡ 7 → ⊥) → c ≡ list_code x → n ≡ list_count x → plain (element_of_code c) n ≡ shape_of x t
+  shape_plain : (c n : ℕ) → (pointer_kind x ≡ 0 → ⊥) → (c ≡ 7 → ⊥) → c ≡ list_code x → n ≡ list_count x → plain (element_of_code c) n ≡ shape_of x t
   shape_plain c n k o e f =
       let m : list_code x ≡ 7 → ⊥ = λ h. o (e ∙ h) in
       rw (e, f)
       (sym (cond-false (eqb (list_code x) 7) (composite (offset_field t) (data_words t) (pointer_words t)) (plain (element_of_code (list_code x)) (list_count x)) (ne_eqb (list_code x) 7 m)) ∙
       shape_list k)
+
+  pub shape_listed : (k : WirePointerKind) (e : ElementSize) (n : ℕ) → (k ≡ kinds.Struct → ⊥) → (e ≡ codes.InlineComposite → ⊥) →
+      kind_number k ≡ pointer_kind x → code_of e ≡ list_code x → n ≡ list_count x → plain (element_of_code (code_of e)) n ≡ shape_of x t
+  shape_listed k e n s c f h i = shape_plain (code_of e) n (λ z. not_struct k s (f ∙ z)) (not_composite e c) h i

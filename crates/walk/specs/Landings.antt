@@ -5,9 +5,9 @@ use Rattle.walk.specs.declared.landing.Landing.{Landing}
 abbrev pub landing_of : Landing → shows.Landing
 landing_of l = record {
   said = l.pointer.word;
-  seg = l.segment;
-  pos = l.start;
-  pad_seg = l.pad_segment;
-  pad_pos = l.pad_start;
+  seg = l.start.segment;
+  pos = l.start.word;
+  pad_seg = l.pad.segment;
+  pad_pos = l.pad.word;
   pad_len = l.pads;
 }

@@ -5,16 +5,10 @@ use Rattle.layout.proofs.Lengths.{lengths_by}
 use Rattle.layout.proofs.Emptying.{empties_by}
 use Rattle.layout.proofs.zeroing.zero_landing.Goals as goal
 
-pub returns : goal.returns
-returns g c =
-    let l = landing_of c.args.landing in
-    let sh = shape_meant c.args.shape in
-    let p = c.zero_spans.ensures in
-    record {
-      words = p.words;
-      own = empties_by (g.S.Reading.segments c.args.source.now) (g.S.Reading.segments c.zero_spans.new.source) l sh p.words;
-      lengths = lengths_by (g.S.Reading.segments c.args.source.now) (g.S.Reading.segments c.zero_spans.new.source) l sh p.words;
-      offers = p.offers;
-      first = p.first;
-      fault = p.fault;
-    }
+pub returns-clause-own : goal.returns-clause-own
+returns-clause-own g c =
+    empties_by (g.S.Reading.segments c.args.source.now) (g.S.Reading.segments c.zero_spans.new.source) (landing_of c.args.held.landing) (shape_meant c.args.held.shape) c.zero_spans.ensures.words
+
+pub returns-clause-lengths : goal.returns-clause-lengths
+returns-clause-lengths g c =
+    lengths_by (g.S.Reading.segments c.args.source.now) (g.S.Reading.segments c.zero_spans.new.source) (landing_of c.args.held.landing) (shape_meant c.args.held.shape) c.zero_spans.ensures.words

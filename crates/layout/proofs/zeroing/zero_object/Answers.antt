@@ -9,36 +9,33 @@ use Rattle.layout.proofs.Turning.{walk_turns}
 use Rattle.layout.proofs.zeroing.zero_object.Goals as goal
 
 pub loop-event-init : goal.loop-event-init
-loop-event-init g c = (
-  (λ a u small shown deep once. walk_starts (word (g.S.Reading.segments c.args.source.now)) a c.args.g c.args.w u shown deep (stack c.at-cursor.result) c.at-cursor.ensures.value),
-  refl,
-  refl,
-  refl,
-  refl,
-)
+loop-event-init g c = record {
+  clearing = λ a u small shown deep once. walk_starts (word (g.S.Reading.segments c.args.source.now)) a c.args.slot.segment c.args.slot.word u shown deep (stack c.at-cursor.result) c.at-cursor.ensures.value;
+  lengths = refl;
+  offers = refl;
+  first = refl;
+  fault = refl;
+}
 
 pub loop-event-preserved : goal.loop-event-preserved
 loop-event-preserved g c =
     let m : List (List ℕ) = g.S.Reading.segments c.loop-event.source in
-    let n : List (List ℕ) = g.S.Reading.segments c.handle.new.source in (
-      (λ a u small shown deep once.
-          walk_turns (word (g.S.Reading.segments c.args.source.now)) a small c.args.g c.args.w u once m n (stack c.loop-event.cursor) (stack c.advance.new.self) c.in-Some.event c.in-Some.ensures.event c.handle.ensures.words
-          (c.loop-event.invariant.0 a u small shown deep once)),
-      handled_lengths c.in-Some.event m n c.handle.ensures.words ∙ c.loop-event.invariant.1,
-      c.handle.ensures.offers ∙ c.loop-event.invariant.2,
-      c.handle.ensures.first ∙ c.loop-event.invariant.3,
-      c.handle.ensures.fault ∙ c.loop-event.invariant.4,
-    )
+    let n : List (List ℕ) = g.S.Reading.segments c.handle.new.source in
+    let k = c.handle.ensures in
+    let kept = c.loop-event.invariant in
+    record {
+      clearing = λ a u small shown deep once.
+          walk_turns (word (g.S.Reading.segments c.args.source.now)) a small c.args.slot.segment c.args.slot.word u once m n (stack c.loop-event.cursor) (stack c.advance.new.self) c.in-Some.event c.in-Some.ensures.event k.words
+          (kept.clearing a u small shown deep once);
+      lengths = handled_lengths c.in-Some.event m n k.words ∙ kept.lengths;
+      offers = k.steady.offers ∙ kept.offers;
+      first = k.steady.first ∙ kept.first;
+      fault = k.steady.fault ∙ kept.fault;
+    }
 
-pub returns : goal.returns
-returns g c =
+pub returns-clause-cleared : goal.returns-clause-cleared
+returns-clause-cleared g c =
     let H : Memory = word (g.S.Reading.segments c.args.source.now) in
     let N : Memory = word (g.S.Reading.segments c.loop-event.source) in
-    record {
-      cleared = λ a u small shown deep once.
-          walk_ends H a c.args.g c.args.w u N (stack c.loop-event.cursor) c.in_default.ensures.event.0 (c.loop-event.invariant.0 a u small shown deep once);
-      lengths = c.loop-event.invariant.1;
-      offers = c.loop-event.invariant.2;
-      first = c.loop-event.invariant.3;
-      fault = c.loop-event.invariant.4;
-    }
+    λ a u small shown deep once.
+    walk_ends H a c.args.slot.segment c.args.slot.word u N (stack c.loop-event.cursor) c.in_default.ensures.event.0 (c.loop-event.invariant.clearing a u small shown deep once)
