@@ -1,26 +1,22 @@
 -- What an edit settles at a value, from its objection and what it makes.
-use Rattle.std.proofs.Common.{◌≡◌, ℕ, zero, suc, Bool, true, false, cond, ltb, ◌≢◌, List, Some, None, Ok, Err, Option, Result, sym, refl, ap, ◌∙◌, subst, ap₂, arith}
+use Rattle.std.proofs.Common.{◌≡◌, ℕ, Bool, true, false, cond, ltb, ◌≢◌, List, Some, None, Ok, Err, Option, Result, sym, ap, ◌∙◌, subst, ap₂, arith}
 use Rattle.wire.specs.declared.sizes.StructSize.{StructSize}
-use Rattle.wire.specs.declared.sizes.ElementSize.{ElementSize}
-use Rattle.wire.specs.declared.sizes.ElementSize.TheVariants.{Void, Bit, Byte, TwoBytes, FourBytes, EightBytes, Pointer, InlineComposite}
-use Rattle.wire.specs.Sizes.{code_of, size_of_code}
 use Rattle.tree.specs.Value as value
 use Rattle.tree.specs.Value.{Value, null, object}
 use Rattle.law.specs.Calls as calls
 use Rattle.law.specs.Machine as machine
 use Rattle.law.specs.Machine.{making, made, effect, makes_too_large, objection, ruling, wrong, verdict, sizes_of, reply}
 use Rattle.walk.specs.declared.shape.Shape.{Shape}
+use Rattle.walk.specs.declared.held.Held.{Held}
 use Rattle.walk.specs.Shapes.{shape_meant}
 use Rattle.judging.specs.declared.ruling.Ruling.{Ruling}
-use Rattle.judging.specs.declared.ruling.Ruling.TheVariants.{BadPath, Nowhere, ListCode, EmptyPlace, LongText, NoStruct, NoList, BitList, Outside, TooLarge}
-use Rattle.judging.specs.declared.site.Held.{Held}
 use Rattle.judging.specs.Rulings.{number_of, answer_of}
 use Rattle.judging.specs.Sites.{shape_in, shape_held}
 use Rattle.judging.specs.Replies.{sizes_meant}
 use Rattle.judging.proofs.Looking.{answer_by_number}
 use Rattle.deciding.specs.declared.edit.Edit.{Edit}
-use Rattle.deciding.specs.declared.making.Choice.{Choice}
-use Rattle.deciding.specs.Edits.{edit_of, says_of}
+use Rattle.deciding.specs.declared.edit.Making.{Making}
+use Rattle.deciding.specs.Edits.{edit_of, shape_told, says_of}
 use Rattle.deciding.specs.Choosing.{Chooses, Gives, growing}
 
 -- ## The ruling from its two parts
@@ -29,51 +25,26 @@ abbrev ruled : ℕ → Bool → ℕ
 ruled n large = cond (ltb 0 n) n (cond large 10 0)
 
 ruled_by : (y : Ruling) (large : Bool) → ruled (number_of y) large ≡ number_of y
-ruled_by BadPath large = refl
-ruled_by (Nowhere s) large = refl
-ruled_by ListCode large = refl
-ruled_by EmptyPlace large = refl
-ruled_by LongText large = refl
-ruled_by NoStruct large = refl
-ruled_by NoList large = refl
-ruled_by BitList large = refl
-ruled_by Outside large = refl
-ruled_by TooLarge large = refl
+ruled_by y large = grind arith
 
 -- an objection comes first
 pub refused_here : (e : calls.Edit) (u : Value) (y : Ruling) → objection e u ≢ 2 → number_of y ≡ objection e u → verdict (ruling e u) ≡ wrong (answer_of y)
-refused_here e u y h q =
-    sym
-    (answer_by_number y (ruling e u) (λ z. h (sym q ∙ (sym (ruled_by y (makes_too_large (making e u))) ∙ (ap (λ (n : ℕ). ruled n (makes_too_large (making e u))) q ∙ z))))
-    (sym (ruled_by y (makes_too_large (making e u))) ∙ ap (λ (n : ℕ). ruled n (makes_too_large (making e u))) q))
+refused_here e u y h q = grind (arith, answer_by_number, ruled_by)
 
 -- with none, only what is made can be too large
 pub unopposed : (e : calls.Edit) (u : Value) (large : Bool) → objection e u ≡ 0 → makes_too_large (making e u) ≡ large → ruling e u ≡ cond large 10 0
 unopposed e u large n q = ap₂ ruled n q
 
--- ## Codes of plain lists
-
-pub code_back : (code : ℕ) (c : ElementSize) → Some c ≡ size_of_code code → code_of c ≡ code
-code_back zero c e = let q : Void ≡ c = cc in ap code_of (sym q)
-code_back (suc zero) c e = let q : Bit ≡ c = cc in ap code_of (sym q)
-code_back (suc (suc zero)) c e = let q : Byte ≡ c = cc in ap code_of (sym q)
-code_back (suc (suc (suc zero))) c e = let q : TwoBytes ≡ c = cc in ap code_of (sym q)
-code_back (suc (suc (suc (suc zero)))) c e = let q : FourBytes ≡ c = cc in ap code_of (sym q)
-code_back (suc (suc (suc (suc (suc zero))))) c e = let q : EightBytes ≡ c = cc in ap code_of (sym q)
-code_back (suc (suc (suc (suc (suc (suc zero)))))) c e = let q : Pointer ≡ c = cc in ap code_of (sym q)
-code_back (suc (suc (suc (suc (suc (suc (suc zero))))))) c e = let q : InlineComposite ≡ c = cc in ap code_of (sym q)
-code_back (suc (suc (suc (suc (suc (suc (suc (suc n)))))))) c e = let z : ◌≡◌ {A = ℕ} 0 1 = cc in absurd (omega arith)
-
 -- ## Edits that answer sizes
 
 module _ (e : Edit) (bs : List ℕ) (replies : (w : Value) → reply (edit_of e bs) w ≡ sizes_of w) (says : (s : Option Shape) → says_of e s ≡ sizes_meant s) where
-  pub settled : (m : machine.Making) (o : Option Held) (u : Value) (r : Result Choice Ruling) → objection (edit_of e bs) u ≡ 0 → making (edit_of e bs) u ≡ m → Gives m o u r → Chooses e bs o u r
+  pub settled : (m : machine.Making) (o : Option Held) (u : Value) (r : Result Making Ruling) → objection (edit_of e bs) u ≡ 0 → making (edit_of e bs) u ≡ m → Gives m o u r → Chooses e bs o u r
   unfolding effect
-  settled m o u (Ok c) n q k =
+  settled m o u (Ok w) n q k =
       record {
         ruled = ap verdict (unopposed (edit_of e bs) u false n (ap makes_too_large q ∙ k.small));
         making_is = k.making_is bs ∙ sym q;
-        says_is = says c.shape ∙ (k.sizes_are ∙ (ap (λ (x : machine.Making). sizes_of (made x u)) (sym q) ∙ sym (replies (effect (edit_of e bs) u))));
+        says_is = says (shape_told w o) ∙ (k.sizes_are ∙ (ap (λ (x : machine.Making). sizes_of (made x u)) (sym q) ∙ sym (replies (effect (edit_of e bs) u))));
         from = k.from;
       }
   settled m o u (Err y) n q k =
@@ -81,9 +52,9 @@ module _ (e : Edit) (bs : List ℕ) (replies : (w : Value) → reply (edit_of e 
 
   -- an object that has to be large enough
   pub settled_grown : (size : StructSize) → ((sh : value.Shape) (dat : ℕ → ℕ → ℕ) (kid : ℕ → ℕ → Value) → making (edit_of e bs) (object sh dat kid) ≡ growing sh size) →
-      (o : Option Held) (h : Held) (u : Value) (r : Result Choice Ruling) → o ≡ Some h → shape_held o ≡ shape_in u → objection (edit_of e bs) u ≡ 0 →
+      (o : Option Held) (h : Held) (u : Value) (r : Result Making Ruling) → o ≡ Some h → shape_held o ≡ shape_in u → objection (edit_of e bs) u ≡ 0 →
       ((dat : ℕ → ℕ → ℕ) (kid : ℕ → ℕ → Value) → Gives (growing (shape_meant h.shape) size) (Some h) (object (shape_meant h.shape) dat kid) r) → Chooses e bs o u r
-  settled_grown size makes o h null r i s n k = let z : ◌≡◌ {A = ℕ} 0 1 = cc (s, ap shape_held i) in absurd (omega arith)
+  settled_grown size makes o h null r i s n k = cc (s, ap shape_held i)
   settled_grown size makes o h (object sh dat kid) r i s n k =
       let same : shape_meant h.shape ≡ sh = cc (s, ap shape_held i) in
       settled (growing sh size) o (object sh dat kid) r n (makes sh dat kid)
@@ -92,10 +63,4 @@ module _ (e : Edit) (bs : List ℕ) (replies : (w : Value) → reply (edit_of e 
 
 -- nothing is held
 pub value_none : (o : Option Held) (u : Value) → o ≡ None → shape_held o ≡ shape_in u → u ≡ null
-value_none o null i s = refl
-value_none o (object sh dat kid) i s = let z : ◌≡◌ {A = ℕ} 0 1 = cc (s, ap shape_held i) in absurd (omega arith)
-
--- ## The edit is this one
-
-pub chooses_at : (e f : Edit) (bs : List ℕ) (o : Option Held) (u : Value) (r : Result Choice Ruling) → e ≡ f → Chooses f bs o u r → Chooses e bs o u r
-chooses_at e f bs o u r q k = subst (λ (x : Edit). Chooses x bs o u r) (sym q) k
+value_none o u i s = grind arith

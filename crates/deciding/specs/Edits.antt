@@ -1,10 +1,12 @@
 -- Edits, makings and what is answered, as the law has them.
-use Rattle.std.specs.Prelude.{ℕ, List, Option}
+use Rattle.std.specs.Prelude.{ℕ, List, Some, None, Option}
+use Rattle.std.specs.Option.{option_map}
 use Rattle.law.specs.Calls as calls
 use Rattle.law.specs.Calls.{Answer, init_struct, init_list, init_rows, get_struct, get_rows, text, clear, done}
 use Rattle.law.specs.Machine as machine
 use Rattle.law.specs.Machine.{keep, wipe, new, spell, rebuild}
 use Rattle.walk.specs.declared.shape.Shape.{Shape}
+use Rattle.walk.specs.declared.held.Held.{Held}
 use Rattle.walk.specs.Shapes.{shape_meant}
 use Rattle.judging.specs.Replies.{sizes_meant}
 use Rattle.deciding.specs.declared.edit.Edit.{Edit}
@@ -28,12 +30,16 @@ making_of (New sh) bs = new (shape_meant sh)
 making_of Spell bs = spell bs
 making_of (Rebuild h sh) bs = rebuild (shape_meant sh)
 
+-- the shape that a making leaves at a slot that holds this, so far as it is told
+abbrev pub shape_told : Making → Option Held → Option Shape
+shape_told Keep o = option_map (λ (h : Held). h.shape) o
+shape_told Wipe o = None
+shape_told (New sh) o = Some sh
+shape_told Spell o = None
+shape_told (Rebuild h sh) o = Some sh
+
 -- the answer of an edit to which this shape, or none, is told
 abbrev pub says_of : Edit → Option Shape → Answer
-says_of (InitStruct s) o = sizes_meant o
-says_of (InitList code n) o = sizes_meant o
-says_of (InitStructList n s) o = sizes_meant o
-says_of (GetStruct s) o = sizes_meant o
-says_of (GetStructList s) o = sizes_meant o
 says_of Text o = done
 says_of Clear o = done
+says_of e o = sizes_meant o

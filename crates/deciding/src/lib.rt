@@ -4,4 +4,4 @@
 pub mod decision;
 pub mod edit;
 mod making;
-pub mod number;
+pub mod numbers;

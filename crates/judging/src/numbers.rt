@@ -2,12 +2,11 @@
 ghost use Rattle.std.specs.Prelude.{◌≡◌};
 ghost use Rattle.wire.specs.Sizes.{code_of};
 ghost use Rattle.wire.specs.Elements.{element_word};
-ghost use Rattle.tree.specs.Value.{place_word};
 ghost use Rattle.law.specs.Reads.{number_word};
 ghost use Rattle.walk.specs.Shapes.{shape_meant};
 ghost use Rattle.judging.specs.Rulings.{home_of};
 
-use super::ruling::Home;
+use number::home::{Home, NumberAt};
 use walk::shape::Shape;
 use wire::sizes::ElementSize;
 
@@ -18,24 +17,13 @@ fn word_of(element: ElementSize, index: u32) -> u32
     (index as u64 * element.bits() as u64 / 64) as u32
 }
 
-// The word of place `k` of row `i`, counted from the object's first word.
-fn place_word(shape: Shape, i: u32, k: u32) -> usize
-    ensures { result ≡ place_word (shape_meant shape) i k }
-{
-    match shape {
-        Shape::Structure(_) => k as usize,
-        Shape::Plain(element, _) => word_of(element, i) as usize,
-        Shape::Composite(_, size) => 1 + i as usize * size.total() as usize + k as usize,
-    }
-}
-
 // The word of an object of the shape that holds the number, counted from the object's first word.
-pub fn number_word(shape: Shape, home: Home, element: ElementSize, index: u32) -> usize
-    ensures value { result ≡ number_word (shape_meant shape) (home_of home) (code_of element) index }
+pub fn number_word(shape: Shape, at: NumberAt, element: ElementSize) -> usize
+    ensures value { result ≡ number_word (shape_meant shape) (home_of at.home) (code_of element) at.index }
 {
-    match home {
-        Home::Field => place_word(shape, 0, word_of(element, index)),
-        Home::Row(row) => place_word(shape, row, word_of(element, index)),
-        Home::Item => place_word(shape, index, 0),
+    match at.home {
+        Home::Field => shape.place_word(0, word_of(element, at.index)),
+        Home::Row(row) => shape.place_word(row, word_of(element, at.index)),
+        Home::Item => shape.place_word(at.index, 0),
     }
 }

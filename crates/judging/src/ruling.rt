@@ -1,7 +1,12 @@
-// Rulings against a call, and the homes of numbers.
+// Rulings against a call, and the places of numbers.
+ghost use Rattle.std.specs.Prelude.{◌≡◌};
+ghost use Rattle.judging.specs.declared.ruling.Ruling.TheVariants as rulings;
+
+use walk::route;
+use wire::sizes;
 
 // Why a call is refused. Each has its number in the law: 1 to 10 in this order.
-#[derive(Clone, Copy)]
+#[derive(Clone, Copy, Debug, PartialEq, Eq)]
 pub enum Ruling {
     // the path is too long, or has a step of no known kind or with a number that its kind does not use
     BadPath,
@@ -23,10 +28,26 @@ pub enum Ruling {
     TooLarge,
 }
 
-// Where a number is: a field of a struct, a field of a row of a struct list, an item of a plain list.
-#[derive(Clone, Copy)]
-pub enum Home {
-    Field,
-    Row(u32),
-    Item,
+impl From<route::Nowhere> for Ruling {
+    ghost from_gives = { λ e y. y ≡ rulings.Nowhere e.step };
+
+    fn from(e: route::Nowhere) -> Ruling {
+        Ruling::Nowhere { step: e.step }
+    }
+}
+
+impl From<sizes::TooLarge> for Ruling {
+    ghost from_gives = { λ _ y. y ≡ rulings.TooLarge };
+
+    fn from(_e: sizes::TooLarge) -> Ruling {
+        Ruling::TooLarge
+    }
+}
+
+impl From<sizes::UnknownCode> for Ruling {
+    ghost from_gives = { λ _ y. y ≡ rulings.ListCode };
+
+    fn from(_e: sizes::UnknownCode) -> Ruling {
+        Ruling::ListCode
+    }
 }

@@ -1,31 +1,30 @@
 // The place of a call: its path is judged and followed, and the object there is described.
-ghost use Rattle.std.specs.Prelude.{◌≡◌, ℕ, ◌^◌, ◌≤◌, not};
+ghost use Rattle.std.specs.Prelude.{◌≡◌, if◌then◌else◌};
+ghost use Rattle.std.specs.List.{list_any};
+ghost use Rattle.wire.specs.Sizes.{code_of};
 ghost use Rattle.tree.specs.Words.{word as memory};
 ghost use Rattle.tree.specs.Value.{Value};
-ghost use Rattle.tree.specs.Shows.{Shows};
 ghost use Rattle.law.specs.Machine.{bad_step, bad_path};
 ghost use Rattle.walk.specs.Slots.{steps_of};
-ghost use Rattle.judging.specs.Sites.{Holds, Met, meant, shape_held, Judged};
+ghost use Rattle.judging.specs.Rulings.{ruling_of, home_of};
+ghost use Rattle.walk.specs.Showing.{OfRoot};
+ghost use Rattle.judging.specs.Sites.{step_bad, Met, meant, shape_in, shape_held, Hosts, Judged};
 
+use super::objections::check_number;
 use super::ruling::Ruling;
-use segments::reading::Reading;
-use walk::landing::{Landing, follow, word_at};
+use number::home::NumberAt;
 use path::step::Step;
-use walk::path::resolve;
-use walk::shape::{Shape, shape_of};
-
-// An object: where it lies, and its shape.
-#[derive(Clone, Copy)]
-pub struct Held {
-    pub landing: Landing,
-    pub shape: Shape,
-}
+use segments::reading::Reading;
+use walk::held::{Held, hold};
+use walk::route::resolve;
+use walk::shape::Shape;
+use walk::spot::Spot;
+use wire::sizes::ElementSize;
 
 // The slot at a path's end, and the object to which it leads, if it is not null.
-#[derive(Clone, Copy)]
+#[derive(Clone, Copy, Debug, PartialEq, Eq)]
 pub struct Site {
-    pub segment: usize,
-    pub word: usize,
+    pub slot: Spot,
     pub object: Option<Held>,
 }
 
@@ -34,10 +33,15 @@ impl Site {
     pub fn shape(self) -> Option<Shape>
         ensures value { meant result ≡ shape_held self.object }
     {
-        match self.object {
-            Some(held) => Some(held.shape),
-            None => None,
-        }
+        self.object.map(|held| held.shape)
+    }
+
+    // The object, if it has such a number of this kind.
+    pub fn host(self, at: NumberAt, element: ElementSize) -> Result<Held, Ruling>
+        ensures value { (u : Value) → shape_held self.object ≡ shape_in u → Hosts (home_of at.home) (code_of element) at.index self.object u result }
+    {
+        check_number(self.shape(), at, element)?;
+        self.object.ok_or(Ruling::EmptyPlace)
     }
 }
 
@@ -53,47 +57,33 @@ fn bad_step(step: Step) -> bool
     }
 }
 
-// Whether the path has at most 63 steps, each of a known kind and with no number that its kind does not use.
-pub fn check_path(path: &[Step]) -> bool
-    ensures value { result ≡ not (bad_path (steps_of path.now)) }
+// Whether some step is such.
+fn has_bad_step(path: &[Step]) -> bool
+    ensures { result ≡ list_any step_bad path.now }
 {
-    if path.len() > 63 {
-        return false;
-    }
-    for i in 0..path.len() {
-        if bad_step(path[i]) {
-            return false;
-        }
-    }
-    true
+    path.iter().any(|&step| bad_step(step))
 }
 
-// What the slot in word `w` of segment `g` holds, whatever the words are.
-pub fn hold<R: Reading>(reading: &R, g: usize, w: usize) -> Option<Held>
-    ensures value { Holds (memory (R.Reading.segments reading.now)) g w result }
+// The path has at most 63 steps, each of a known kind and with no number that its kind does not use.
+#[tactic(auto, using(crate::proofs::Checking::bad_path_is))]
+pub fn check_path(path: &[Step]) -> Result<(), Ruling>
+    ensures value { ruling_of result ≡ (if bad_path (steps_of path.now) then 1 else 0) }
 {
-    if word_at(reading, g, w) == 0 {
-        return None;
+    if path.len() > 63 || has_bad_step(path) {
+        return Err(Ruling::BadPath);
     }
-    let landing = follow(reading, g, w);
-    let shape = shape_of(reading, landing);
-    Some(Held { landing, shape })
+    Ok(())
 }
 
 // The site of a path. On words that show a tree, it or the ruling is what the tree says.
 pub fn find_site<R: Reading>(reading: &R, path: &[Step]) -> Result<Site, Ruling>
     ensures value { Met (memory (R.Reading.segments reading.now)) path.now result }
-    ensures sound { (a : ℕ → ℕ) (v : Value) → ((x : ℕ) → a x ≤ 2 ^ 29) → Shows (memory (R.Reading.segments reading.now)) a 0 0 v → Judged (memory (R.Reading.segments reading.now)) v (steps_of path.now) result }
+    ensures sound { OfRoot (memory (R.Reading.segments reading.now)) (λ v. Judged (memory (R.Reading.segments reading.now)) v (steps_of path.now) result) }
 {
-    if !check_path(path) {
-        return Err(Ruling::BadPath);
-    }
-    match resolve(reading, path) {
-        Ok((segment, word)) => Ok(Site {
-            segment,
-            word,
-            object: hold(reading, segment, word),
-        }),
-        Err(e) => Err(Ruling::Nowhere { step: e.step }),
-    }
+    check_path(path)?;
+    let slot = resolve(reading, path)?;
+    Ok(Site {
+        slot,
+        object: hold(reading, slot),
+    })
 }

@@ -1,23 +1,23 @@
 -- A path that is refused, and one that leads to a site.
-use Rattle.std.proofs.Common.{sym, ◌∙◌}
+use Rattle.std.proofs.Common.{◌∙◌}
 use Rattle.std.proofs.lemmas.Result.{err_from_is_err_and}
-use Rattle.tree.specs.Value.{value_at}
+use Rattle.tree.specs.Words.{word}
+use Rattle.tree.specs.Shows.{Memory}
 use Rattle.law.specs.Reads.{shape}
-use Rattle.walk.specs.Slots.{steps_of}
-use Rattle.judging.specs.Rulings.{answer_of}
-use Rattle.judging.proofs.Looking.{look_fine, look_wrong, sizes_there}
+use Rattle.judging.proofs.Arrivals.{shape_found}
+use Rattle.judging.proofs.Looking.{refused_look, there_look, sizes_there}
 use Rattle.judging.proofs.looks.read_sizes.Goals as goal
 
 pub returns-in_err-site : goal.returns-in_err-site
 returns-in_err-site g c =
     let p = err_from_is_err_and c.from_residual.result c.from_residual.ensures.1 in
     rw (p.1, p.2)
-    (record { sound = λ a v small shown. sym (look_wrong v (steps_of c.args.path.now) shape (answer_of c.in_err-site.field-0.0) (c.in_err-site.ensures.sound a v small shown)) })
+    (record { sound = refused_look (word (g.R.Reading.segments c.args.reading.now)) c.args.path.now shape c.in_err-site.field-0.0 c.in_err-site.ensures.sound })
 
 pub returns : goal.returns
 returns g c =
+    let H : Memory = word (g.R.Reading.segments c.args.reading.now) in
     record {
-      sound = λ a v small shown.
-          let m = c.in_ok-site.ensures.sound a v small shown in
-          sizes_there (value_at v (steps_of c.args.path.now)) c.shape.result (c.shape.ensures.value ∙ m.shape) ∙ sym (look_fine v (steps_of c.args.path.now) shape m.judged);
+      sound = there_look H c.args.path.now shape c.in_ok-site.site _ c.in_ok-site.ensures.sound
+          (λ held a u small shown. sizes_there u c.shape.result (c.shape.ensures.value ∙ shape_found H a c.in_ok-site.site.slot.segment c.in_ok-site.site.slot.word u c.in_ok-site.site.object shown held));
     }
