@@ -11,22 +11,8 @@ use segments::reading::Reading;
 use segments::source::Source;
 use std::io;
 use table::SegmentTable;
+use walk::spot::Spot;
 use word_slab::Slab;
-
-// A step of a script: words anywhere, an object for a slot in a segment, a landing pad for a child in a segment, a word written, an
-// object zeroed, a mark set, going back to it, one word after another while there is space, all words shown.
-#[derive(Clone, Copy)]
-enum Step {
-    Anywhere(u32),
-    Place(usize, u32),
-    Pad(usize),
-    Write(usize, usize, u64),
-    Zero(usize, usize),
-    Mark,
-    Back,
-    Exhaust,
-    Show,
-}
 
 // A run of `n` zero words.
 fn show_zeros<R: Print>(rt: &R, n: usize) -> io::Result<()> {
@@ -52,256 +38,257 @@ fn show_words<S: Source, R: Print>(rt: &R, s: &S, g: usize) -> io::Result<()> {
     show_zeros(rt, zeros)
 }
 
-// Each segment: the words allocated, and all its words.
-fn show<S: Source, R: Print>(rt: &R, arena: &BuilderArena<S>) -> io::Result<()> {
-    for g in 0..arena.table.count() {
-        let allocated = arena.table.allocated(g);
-        print!(rt; "  segment {g}, {allocated} allocated:")?;
-        show_words(rt, &arena.source, g)?;
-        println!(rt; "")?;
-    }
-    Ok(())
+// An arena at work, and its table as it was when the mark was set.
+#[derive(Drop)]
+struct Work<'a, S: Source, R: Print> {
+    rt: &'a R,
+    arena: &'a mut BuilderArena<S>,
+    mark: SegmentTable,
 }
 
-// One word after another until there is no space, at most 100 times.
-fn exhaust<S: Source, R: Print>(rt: &R, arena: &mut BuilderArena<S>) -> io::Result<()> {
-    for n in 0..100u32 {
-        if let Err(no_space) = arena.allocate_anywhere(1) {
-            return println!(rt; "  {n} times a word, then {no_space:?}");
+impl<S: Source, R: Print> Work<'_, S, R> {
+    // `n` words anywhere.
+    fn anywhere(&mut self, n: u32) -> io::Result<()> {
+        let r = self.arena.allocate_anywhere(n);
+        println!(self.rt; "  {n} anywhere: {r:?}")
+    }
+
+    // An object of `n` words for a slot in segment `g`.
+    fn place(&mut self, g: usize, n: u32) -> io::Result<()> {
+        let r = self.arena.place(g, n);
+        println!(self.rt; "  {n} for a slot in {g}: {r:?}")
+    }
+
+    // A landing pad for a child in segment `g`.
+    fn pad(&mut self, g: usize) -> io::Result<()> {
+        let r = self.arena.place_pad(g);
+        println!(self.rt; "  a pad in {g}: {r:?}")
+    }
+
+    // Puts `x` into word `w` of segment `g`.
+    fn write(&mut self, g: usize, w: usize, x: u64) {
+        let spot = Spot {
+            segment: g,
+            word: w,
+        };
+        write_word(self.arena, spot, x);
+    }
+
+    // Zeroes the object that word `w` of segment `g` points to.
+    fn zero(&mut self, g: usize, w: usize) -> io::Result<()> {
+        let slot = Spot {
+            segment: g,
+            word: w,
+        };
+        zero_object(&mut self.arena.source, slot);
+        println!(self.rt; "  zero what {g} {w} reaches")
+    }
+
+    // Sets the mark.
+    fn mark(&mut self) -> io::Result<()> {
+        self.mark = self.arena.table;
+        println!(self.rt; "  mark")
+    }
+
+    // Goes back to the mark.
+    fn back(&mut self) -> io::Result<()> {
+        self.arena.roll_back(&self.mark);
+        println!(self.rt; "  back")
+    }
+
+    // One word after another until there is no space, at most 100 times.
+    fn exhaust(&mut self) -> io::Result<()> {
+        for n in 0..100u32 {
+            if let Err(no_space) = self.arena.allocate_anywhere(1) {
+                return println!(self.rt; "  {n} times a word, then {no_space:?}");
+            }
         }
+        println!(self.rt; "  100 times a word")
     }
-    println!(rt; "  100 times a word")
+
+    // Each segment: the words allocated, and all its words.
+    fn show(&self) -> io::Result<()> {
+        for g in 0..self.arena.table.count() {
+            let allocated = self.arena.table.allocated(g);
+            print!(self.rt; "  segment {g}, {allocated} allocated:")?;
+            show_words(self.rt, &self.arena.source, g)?;
+            println!(self.rt; "")?;
+        }
+        Ok(())
+    }
 }
 
-// Makes one step; the mark is the table as it was.
-fn make<S: Source, R: Print>(
+// Makes some steps on an arena over `source`.
+fn run<S: Source + Drop, R: Print, F: FnOnce(&mut Work<'_, S, R>) -> io::Result<()>>(
     rt: &R,
-    arena: &mut BuilderArena<S>,
-    mark: &mut SegmentTable,
-    step: Step,
-) -> io::Result<()> {
-    match step {
-        Step::Anywhere(n) => {
-            let r = arena.allocate_anywhere(n);
-            println!(rt; "  {n} anywhere: {r:?}")
-        }
-        Step::Place(g, n) => {
-            let r = arena.place(g, n);
-            println!(rt; "  {n} for a slot in {g}: {r:?}")
-        }
-        Step::Pad(g) => {
-            let r = arena.place_pad(g);
-            println!(rt; "  a pad in {g}: {r:?}")
-        }
-        Step::Write(g, w, x) => {
-            write_word(arena, g, w, x);
-            Ok(())
-        }
-        Step::Zero(g, w) => {
-            zero_object(&mut arena.source, g, w);
-            println!(rt; "  zero what {g} {w} reaches")
-        }
-        Step::Mark => {
-            *mark = arena.table;
-            println!(rt; "  mark")
-        }
-        Step::Back => {
-            arena.roll_back(mark);
-            println!(rt; "  back")
-        }
-        Step::Exhaust => exhaust(rt, arena),
-        Step::Show => show(rt, arena),
-    }
-}
-
-// Makes the steps of a script.
-fn make_all<S: Source, R: Print>(
-    rt: &R,
-    arena: &mut BuilderArena<S>,
-    steps: &[Step],
-) -> io::Result<()> {
-    let mut mark = SegmentTable::new();
-    for step in steps {
-        make(rt, arena, &mut mark, *step)?;
-    }
-    Ok(())
-}
-
-// An arena over a source makes the steps of a script.
-fn run<S: Source + Drop, R: Print>(rt: &R, source: S, steps: &[Step]) -> io::Result<()> {
+    source: S,
+    steps: F,
+) -> io::Result<()>
+    requires { F.IsAlwaysCallable steps }
+{
     let mut arena = BuilderArena {
         source,
         table: SegmentTable::new(),
     };
-    let done = make_all(rt, &mut arena, steps);
+    let done = steps(&mut Work {
+        rt,
+        arena: &mut arena,
+        mark: SegmentTable::new(),
+    });
     let BuilderArena { source, table } = arena;
     done
 }
 
+fn over_slab<S: Source, R: Print>(work: &mut Work<'_, S, R>) -> io::Result<()> {
+    work.anywhere(1)?;
+    work.place(0, 3)?;
+    work.anywhere(2)?;
+    work.write(0, 0, 0x0002000100000000);
+    work.write(0, 1, 0x2a);
+    work.write(0, 4, 0x11);
+    work.write(0, 5, 0x22);
+    work.place(0, 1)?;
+    work.write(0, 2, 0x0000000100000002);
+    work.write(1, 0, 0x0000002a00000001);
+    work.write(1, 1, 0x6b6f6f52);
+    work.anywhere(1)?;
+    work.write(1, 2, 0x33);
+    work.anywhere(7)?;
+    work.write(2, 0, 1);
+    work.write(2, 6, 7);
+    work.pad(2)?;
+    work.write(0, 3, 0x000000010000001e);
+    work.write(1, 3, 0x0000000200000002);
+    work.write(1, 4, 0x0000003d00000001);
+    work.show()?;
+    work.mark()?;
+    work.anywhere(2)?;
+    work.write(3, 0, 0x44);
+    work.write(3, 1, 0x55);
+    work.anywhere(1)?;
+    work.write(1, 5, 0x66);
+    work.anywhere(5)?;
+    work.write(4, 4, 0x77);
+    work.place(2, 4)?;
+    work.place(2, 3)?;
+    work.write(3, 2, 0x88);
+    work.pad(4)?;
+    work.pad(4)?;
+    work.show()?;
+    work.back()?;
+    work.show()?;
+    work.zero(0, 0)?;
+    work.show()
+}
+
+fn over_pages<S: Source, R: Print>(work: &mut Work<'_, S, R>) -> io::Result<()> {
+    work.anywhere(1)?;
+    work.anywhere(257)?;
+    work.place(0, 255)?;
+    work.write(0, 0, 0x000007fe00000001);
+    work.place(0, 2)?;
+    work.write(0, 255, 0x0000000100000002);
+    work.write(1, 0, 0x0000000200000000);
+    work.write(1, 1, 0x11);
+    work.write(1, 2, 0x22);
+    work.pad(0)?;
+    work.write(1, 3, 0x33);
+    work.write(1, 4, 0x44);
+    work.place(1, 256)?;
+    work.mark()?;
+    work.anywhere(252)?;
+    work.write(2, 251, 0x55);
+    work.anywhere(251)?;
+    work.write(1, 255, 0x66);
+    work.show()?;
+    work.back()?;
+    work.zero(0, 0)?;
+    work.show()
+}
+
+fn over_scratch<S: Source, R: Print>(work: &mut Work<'_, S, R>) -> io::Result<()> {
+    work.anywhere(1)?;
+    work.place(0, 5)?;
+    work.place(0, 1)?;
+    work.write(0, 0, 0x0000002700000001);
+    work.write(0, 1, 0x0001000100000008);
+    work.write(0, 2, 0x2a);
+    work.write(0, 3, 0x0000002a00000009);
+    work.write(0, 4, 0x2b);
+    work.write(0, 5, 0x00000000fffffffc);
+    work.write(0, 6, 0x6b6f6f52);
+    work.anywhere(250)?;
+    work.write(1, 249, 0x11);
+    work.anywhere(249)?;
+    work.write(0, 255, 0x22);
+    work.mark()?;
+    work.place(0, 6)?;
+    work.write(2, 0, 0x33);
+    work.place(0, 5)?;
+    work.write(1, 255, 0x44);
+    work.anywhere(257)?;
+    work.show()?;
+    work.back()?;
+    work.zero(0, 0)?;
+    work.show()
+}
+
 fn quota_over<S: Source + Drop, R: Print>(rt: &R, s: S) -> io::Result<()> {
     println!(rt; "a quota of 20 over a slab of 40 with step 8")?;
-    run(
-        rt,
-        Quota::new(s, 20),
-        &[
-            Step::Anywhere(1),
-            Step::Write(0, 0, 0x0000003500000001),
-            Step::Mark,
-            Step::Place(0, 6),
-            Step::Write(0, 6, 0x11),
-            Step::Place(0, 8),
-            Step::Write(1, 0, 0x22),
-            Step::Write(1, 8, 0x33),
-            Step::Anywhere(1),
-            Step::Anywhere(1),
-            Step::Pad(1),
-            Step::Anywhere(24),
-            Step::Show,
-            Step::Back,
-            Step::Show,
-            Step::Anywhere(8),
-            Step::Show,
-        ],
-    )
+    run(rt, Quota::new(s, 20), |work| {
+        work.anywhere(1)?;
+        work.write(0, 0, 0x0000003500000001);
+        work.mark()?;
+        work.place(0, 6)?;
+        work.write(0, 6, 0x11);
+        work.place(0, 8)?;
+        work.write(1, 0, 0x22);
+        work.write(1, 8, 0x33);
+        work.anywhere(1)?;
+        work.anywhere(1)?;
+        work.pad(1)?;
+        work.anywhere(24)?;
+        work.show()?;
+        work.back()?;
+        work.show()?;
+        work.anywhere(8)?;
+        work.show()
+    })
 }
 
 fn quota_over_scratch<S: Source + Drop, R: Print>(rt: &R, s: S) -> io::Result<()> {
     println!(rt; "a quota of 300 over scratch over a slab of 100 with step 16")?;
-    run(
-        rt,
-        Quota::new(Scratch::new(s), 300),
-        &[
-            Step::Anywhere(1),
-            Step::Place(0, 255),
-            Step::Place(0, 15),
-            Step::Write(0, 0, 0x000007fe00000001),
-            Step::Write(0, 255, 0x0000000100000002),
-            Step::Write(1, 0, 0x0000007d00000001),
-            Step::Write(1, 15, 0x11),
-            Step::Pad(0),
-            Step::Write(2, 1, 0x22),
-            Step::Place(0, 14),
-            Step::Place(0, 13),
-            Step::Write(2, 15, 0x33),
-            Step::Anywhere(69),
-            Step::Show,
-            Step::Zero(0, 0),
-            Step::Show,
-        ],
-    )
+    run(rt, Quota::new(Scratch::new(s), 300), |work| {
+        work.anywhere(1)?;
+        work.place(0, 255)?;
+        work.place(0, 15)?;
+        work.write(0, 0, 0x000007fe00000001);
+        work.write(0, 255, 0x0000000100000002);
+        work.write(1, 0, 0x0000007d00000001);
+        work.write(1, 15, 0x11);
+        work.pad(0)?;
+        work.write(2, 1, 0x22);
+        work.place(0, 14)?;
+        work.place(0, 13)?;
+        work.write(2, 15, 0x33);
+        work.anywhere(69)?;
+        work.show()?;
+        work.zero(0, 0)?;
+        work.show()
+    })
 }
 
 fn main(rt: HostRuntime) -> io::Result<()> {
     let mut words = [9u64; 100];
     println!(rt; "a slab of 100 with step 0")?;
-    run(&rt, Slab::new(&mut words, 0), &[Step::Exhaust])?;
+    run(&rt, Slab::new(&mut words, 0), |work| work.exhaust())?;
     let mut words = [9u64; 31];
     println!(rt; "a slab of 31 with step 6")?;
-    run(
-        &rt,
-        Slab::new(&mut words, 6),
-        &[
-            Step::Anywhere(1),
-            Step::Place(0, 3),
-            Step::Anywhere(2),
-            Step::Write(0, 0, 0x0002000100000000),
-            Step::Write(0, 1, 0x2a),
-            Step::Write(0, 4, 0x11),
-            Step::Write(0, 5, 0x22),
-            Step::Place(0, 1),
-            Step::Write(0, 2, 0x0000000100000002),
-            Step::Write(1, 0, 0x0000002a00000001),
-            Step::Write(1, 1, 0x6b6f6f52),
-            Step::Anywhere(1),
-            Step::Write(1, 2, 0x33),
-            Step::Anywhere(7),
-            Step::Write(2, 0, 1),
-            Step::Write(2, 6, 7),
-            Step::Pad(2),
-            Step::Write(0, 3, 0x000000010000001e),
-            Step::Write(1, 3, 0x0000000200000002),
-            Step::Write(1, 4, 0x0000003d00000001),
-            Step::Show,
-            Step::Mark,
-            Step::Anywhere(2),
-            Step::Write(3, 0, 0x44),
-            Step::Write(3, 1, 0x55),
-            Step::Anywhere(1),
-            Step::Write(1, 5, 0x66),
-            Step::Anywhere(5),
-            Step::Write(4, 4, 0x77),
-            Step::Place(2, 4),
-            Step::Place(2, 3),
-            Step::Write(3, 2, 0x88),
-            Step::Pad(4),
-            Step::Pad(4),
-            Step::Show,
-            Step::Back,
-            Step::Show,
-            Step::Zero(0, 0),
-            Step::Show,
-        ],
-    )?;
+    run(&rt, Slab::new(&mut words, 6), over_slab)?;
     println!(rt; "pages")?;
-    run(
-        &rt,
-        Pages::new(),
-        &[
-            Step::Anywhere(1),
-            Step::Anywhere(257),
-            Step::Place(0, 255),
-            Step::Write(0, 0, 0x000007fe00000001),
-            Step::Place(0, 2),
-            Step::Write(0, 255, 0x0000000100000002),
-            Step::Write(1, 0, 0x0000000200000000),
-            Step::Write(1, 1, 0x11),
-            Step::Write(1, 2, 0x22),
-            Step::Pad(0),
-            Step::Write(1, 3, 0x33),
-            Step::Write(1, 4, 0x44),
-            Step::Place(1, 256),
-            Step::Mark,
-            Step::Anywhere(252),
-            Step::Write(2, 251, 0x55),
-            Step::Anywhere(251),
-            Step::Write(1, 255, 0x66),
-            Step::Show,
-            Step::Back,
-            Step::Zero(0, 0),
-            Step::Show,
-        ],
-    )?;
+    run(&rt, Pages::new(), over_pages)?;
     println!(rt; "scratch over pages")?;
-    run(
-        &rt,
-        Scratch::new(Pages::new()),
-        &[
-            Step::Anywhere(1),
-            Step::Place(0, 5),
-            Step::Place(0, 1),
-            Step::Write(0, 0, 0x0000002700000001),
-            Step::Write(0, 1, 0x0001000100000008),
-            Step::Write(0, 2, 0x2a),
-            Step::Write(0, 3, 0x0000002a00000009),
-            Step::Write(0, 4, 0x2b),
-            Step::Write(0, 5, 0x00000000fffffffc),
-            Step::Write(0, 6, 0x6b6f6f52),
-            Step::Anywhere(250),
-            Step::Write(1, 249, 0x11),
-            Step::Anywhere(249),
-            Step::Write(0, 255, 0x22),
-            Step::Mark,
-            Step::Place(0, 6),
-            Step::Write(2, 0, 0x33),
-            Step::Place(0, 5),
-            Step::Write(1, 255, 0x44),
-            Step::Anywhere(257),
-            Step::Show,
-            Step::Back,
-            Step::Zero(0, 0),
-            Step::Show,
-        ],
-    )?;
+    run(&rt, Scratch::new(Pages::new()), over_scratch)?;
     let mut words = [9u64; 40];
     quota_over(&rt, Slab::new(&mut words, 8))?;
     let mut words = [9u64; 100];

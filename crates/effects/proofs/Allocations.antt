@@ -9,8 +9,9 @@ use Rattle.table.specs.Segments.{fresh, more, Table, allocated_in, left_in, capa
 use Rattle.table.specs.Placing.{Room, Outcome, got, no_space, then, in_segment, grant, anywhere, place, pad, root}
 use Rattle.table.specs.Meaning.{table_of, has_room, with_first_words}
 use Rattle.table.specs.declared.SegmentTable.{SegmentTable}
-use Rattle.table.proofs.Entries.{count_is}
-use Rattle.table.proofs.Tables.{append_none, capacities_append, capacities_take}
+use Rattle.table.proofs.Entries.{segments_few}
+use Rattle.std.proofs.lemmas.List.{append-nil}
+use Rattle.table.proofs.Tables.{capacities_append, capacities_take}
 use Rattle.arena.specs.declared.NoSpace.{NoSpace}
 use Rattle.arena.specs.Space.{Space, with_table, with_pad, Found, Denied, Anywhere, Placed, Padded, Granted as Arena-as-Granted}
 use Rattle.law.specs.Law.{Source, State, memory, lengths, Offered}
@@ -88,13 +89,13 @@ module _ {X : Type 0} (S : Source X) where
               rule later before ∙
               (ap (λ (k : Table). got (room_of k later before) (g, allocated_in s.table g)) (sym t) ∙
               (ap (λ (q : ℕ × ℕ). got (room_of s'.table later before) q) (sym pair_is) ∙
-              ap (λ (l : List ℕ). got (room_of s'.table later l) p) (sym (append_none before))));
+              ap (λ (l : List ℕ). got (room_of s'.table later l) p) (sym (append-nil before))));
           granted = (
             ap (λ (k : Space). map length k.segments) space_is,
             ap (λ (k : Space). k.offers) space_is,
             ap (λ (k : Space). k.first_offers) space_is,
           );
-          capacities_are = ap capacities t ∙ (capacities_take s.table g n ∙ sym (append_none (capacities s.table)));
+          capacities_are = ap capacities t ∙ (capacities_take s.table g n ∙ sym (append-nil (capacities s.table)));
         },
         ap (λ (k : Space). word k.segments) space_is,
       )
@@ -126,9 +127,9 @@ module _ {X : Type 0} (S : Source X) where
     met = [];
     asked = [];
     reached = s.table;
-    rule = λ before. rule before ∙ ap (λ (l : List ℕ). no_space (room_of s.table [] l) n) (sym (append_none before));
+    rule = λ before. rule before ∙ ap (λ (l : List ℕ). no_space (room_of s.table [] l) n) (sym (append-nil before));
     granted = (ap (λ (k : State). lengths k.source) same, ap (λ (k : State). k.source.offers) same, ap (λ (k : State). k.source.first_offers) same);
-    capacities_are = ap (λ (k : State). capacities k.table) same ∙ sym (append_none (capacities s.table));
+    capacities_are = ap (λ (k : State). capacities k.table) same ∙ sym (append-nil (capacities s.table));
     no_more = ⊎_elim (λ (h : length s.table ≡ 64). inl (ap (λ (k : State). length k.table) same ∙ h)) (λ (h : s.source.offers n ≡ None). inr (ap (λ (k : State). k.source.offers n) same ∙ h)) none;
   }
 
@@ -168,10 +169,7 @@ rests S s a = rewrites S s s a (record { same_lengths = refl; same_offers = refl
 
 -- a table in memory has at most 64 segments
 pub at_most : (t : SegmentTable) → length (table_of t) ≤ 64
-at_most t =
-    let few : t.count ≤ length t.entries = let x = t.few in let y = t.whole in omega arith in
-    let c = count_is t.count t.entries few in
-    let x = t.few in omega arith
+at_most t = segments_few t
 
 -- From the state s to the value x of a source with the table t'. At most 64 segments are there before.
 module _ {X F : Type 0} (S : Source X) (fault : ℕ → F) (s : State) (x : X) (t' : Table) (few : length s.table ≤ 64) (bounds : Offered (S x).offers) where

@@ -9,7 +9,8 @@ use Rattle.tree.proofs.Context.{reached, Once}
 use Rattle.tree.proofs.Replace.{once_end, beyond}
 use Rattle.table.specs.Segments.{allocated_in, capacities, all_fresh}
 use Rattle.table.specs.Placing.{Room, room, Outcome, no_space, root}
-use Rattle.table.proofs.Tables.{append_none, capacities_length, capacities_append, capacities_fresh}
+use Rattle.std.proofs.lemmas.List.{append-nil}
+use Rattle.table.proofs.Tables.{capacities_length, capacities_append, capacities_fresh}
 use Rattle.arena.specs.declared.NoSpace.{NoSpace}
 use Rattle.law.specs.Calls.{Call, Typed, refused}
 use Rattle.law.specs.Machine.{making, fine, wrong, judge, reply, effect}
@@ -22,6 +23,7 @@ use Rattle.law.proofs.Makings as makings
 use Rattle.law.proofs.Grants.{granted_join}
 use Rattle.law.proofs.Tables.{tables}
 use Rattle.law.proofs.Enough.{roots, exact, bounded_small}
+use Rattle.walk.specs.Spots.{spot_of}
 use Rattle.effects.specs.States.{Sized, Clean, Prepared, Back}
 use Rattle.effects.specs.Parts.{Went, Failed}
 use Rattle.effects.specs.Makes.{Slot, Performs}
@@ -117,8 +119,8 @@ module _ {X : Type 0} (S : Source X) where
         reached = f.reached;
         rule = f.rule;
         granted =
-            subst (λ (l : List ℕ). Granted S s.source l f.met s'.source) (append_none f.asked)
-            (subst (λ (l : List ℕ). Granted S s.source (f.asked ++ []) l s'.source) (append_none f.met) joined);
+            subst (λ (l : List ℕ). Granted S s.source l f.met s'.source) (append-nil f.asked)
+            (subst (λ (l : List ℕ). Granted S s.source (f.asked ++ []) l s'.source) (append-nil f.met) joined);
         capacities_are = caps;
         no_more = ⊎_elim (λ (h : length s₁.table ≡ 64). inl (long ∙ h)) (λ (h : s₁.source.offers n ≡ None). inr (ap (λ (o : ℕ → _). o n) b.same_offers ∙ h)) f.no_more;
       }
@@ -176,7 +178,7 @@ module _ {X : Type 0} (S : Source X) where
         typed = t;
         before = h;
         judged_fine = j;
-        outcome = ap (λ (l : List ℕ). call_outcome (memory s) v (room s.table l) c) (sym (append_none w.met)) ∙ w.rule [] [];
+        outcome = ap (λ (l : List ℕ). call_outcome (memory s) v (room s.table l) c) (sym (append-nil w.met)) ∙ w.rule [] [];
         all_used = refl;
         granted = w.granted;
         table_is = refl;
@@ -207,4 +209,4 @@ module _ {X : Type 0} (S : Source X) where
       }))
 
 pub whole_calls : (X E : Type 0) → WholeCallsKeepTheLaw X E
-whole_calls X E = record { rejected = lawful_rejected; accepted = lawful_accepted; crowded = λ S. lawful_crowded S {E = E} }
+whole_calls X E = record { rejected = lawful_rejected; accepted = λ S s v c y s' p. lawful_accepted S s v c y s' (spot_of p); crowded = λ S. lawful_crowded S {E = E} }

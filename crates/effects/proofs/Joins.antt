@@ -2,7 +2,7 @@
 use Rattle.std.proofs.Common.{◌≡◌, ℕ, List, [], ◌++◌, sym, ap, ◌∙◌}
 use Rattle.table.specs.Segments.{Table, capacities}
 use Rattle.table.specs.Placing.{Room, Outcome, got, no_space, then}
-use Rattle.table.proofs.Tables.{append_assoc', append_none}
+use Rattle.std.proofs.lemmas.List.{append-nil, append_assoc}
 use Rattle.law.specs.Law.{Source, State}
 use Rattle.law.proofs.Grants.{granted_join}
 use Rattle.effects.specs.States.{Rewritten}
@@ -13,7 +13,7 @@ abbrev pub room_of : Table → (coming asked : List ℕ) → Room
 room_of t cs as' = record { table = t; coming = cs; asked = as' }
 
 capacities_join : (a b c : List ℕ) (ms ns : List ℕ) → b ≡ a ++ ms → c ≡ b ++ ns → c ≡ a ++ (ms ++ ns)
-capacities_join a b c ms ns e f = f ∙ ap (λ (l : List ℕ). l ++ ns) e ∙ append_assoc' a ms ns
+capacities_join a b c ms ns e f = f ∙ ap (λ (l : List ℕ). l ++ ns) e ∙ append_assoc a ms ns
 
 module _ {X A B : Type 0} (S : Source X) (f : Room → Outcome A) (k : Room → A → Outcome B) where
   pub joins : (s t u : State) (a : A) (b : B) → Went S f s a t → Went S (λ r. k r a) t b u → Went S (λ r. then (f r) k) s b u
@@ -21,10 +21,10 @@ module _ {X A B : Type 0} (S : Source X) (f : Room → Outcome A) (k : Room → 
     met = p.met ++ q.met;
     asked = p.asked ++ q.asked;
     rule = λ later before.
-        ap (λ (l : List ℕ). then (f (room_of s.table l before)) k) (append_assoc' p.met q.met later) ∙
+        ap (λ (l : List ℕ). then (f (room_of s.table l before)) k) (append_assoc p.met q.met later) ∙
         (ap (λ (o : Outcome A). then o k) (p.rule (q.met ++ later) before) ∙
         (q.rule later (before ++ p.asked) ∙
-        ap (λ (l : List ℕ). got (room_of u.table later l) b) (append_assoc' before p.asked q.asked)));
+        ap (λ (l : List ℕ). got (room_of u.table later l) b) (append_assoc before p.asked q.asked)));
     granted = granted_join S s.source t.source u.source p.asked q.asked p.met q.met p.granted q.granted;
     capacities_are = capacities_join (capacities s.table) (capacities t.table) (capacities u.table) p.met q.met p.capacities_are q.capacities_are;
   }
@@ -48,7 +48,7 @@ module _ {X A B : Type 0} (S : Source X) (f : Room → Outcome A) (k : Room → 
     rule = λ before.
         ap (λ (o : Outcome A). then o k) (p.rule q.met before) ∙
         (q.rule (before ++ p.asked) ∙
-        ap (λ (l : List ℕ). no_space (room_of q.reached [] l) m) (append_assoc' before p.asked q.asked));
+        ap (λ (l : List ℕ). no_space (room_of q.reached [] l) m) (append_assoc before p.asked q.asked));
     granted = granted_join S s.source t.source u.source p.asked q.asked p.met q.met p.granted q.granted;
     capacities_are = capacities_join (capacities s.table) (capacities t.table) (capacities u.table) p.met q.met p.capacities_are q.capacities_are;
     no_more = q.no_more;
@@ -62,9 +62,9 @@ module _ {X A : Type 0} (S : Source X) where
     asked = [];
     rule = λ later before.
         ap (λ (t : Table). got (room_of t later before) a) (sym w.same_table) ∙
-        ap (λ (l : List ℕ). got (room_of s'.table later l) a) (sym (append_none before));
+        ap (λ (l : List ℕ). got (room_of s'.table later l) a) (sym (append-nil before));
     granted = (w.same_lengths, w.same_offers, w.same_first);
-    capacities_are = ap capacities w.same_table ∙ sym (append_none (capacities s.table));
+    capacities_are = ap capacities w.same_table ∙ sym (append-nil (capacities s.table));
   }
 
   -- another rule that says the same

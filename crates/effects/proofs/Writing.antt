@@ -7,35 +7,19 @@ use Rattle.tree.specs.Value.{change}
 use Rattle.tree.specs.Words.{word}
 use Rattle.tree.proofs.Words.{word_written}
 use Rattle.table.specs.declared.SegmentTable.{SegmentTable}
-use Rattle.table.specs.Segments.{Segment, fresh, Table, allocated_in, capacities}
+use Rattle.table.specs.Segments.{Table, allocated_in, capacities}
 use Rattle.table.specs.Meaning.{table_of}
-use Rattle.table.proofs.Entries.{allocated_past, allocated_is, entry_is, count_is}
+use Rattle.table.proofs.Entries.{allocated_past, allocated_within, allocated_small, segments_few}
 use Rattle.arena.proofs.Zeros.{written_put, put_sizes}
 use Rattle.law.specs.Law.{State}
 use Rattle.effects.specs.States.{Sized, Rewritten}
 
 -- ## A table's counts
 
-pub capacity_at : (t : Table) (g : ℕ) → get_or (capacities t) g 0 ≡ (get_or t g (fresh 0)).capacity
-capacity_at [] g = refl
-capacity_at (s ∷ t) zero = refl
-capacity_at (s ∷ t) (suc g) = capacity_at t g
-
 -- no more is allocated than there is, and all of it below 2 ^ 29
 pub within_capacity : (t : SegmentTable) (g : ℕ) →
     (allocated_in (table_of t) g ≤ get_or (capacities (table_of t)) g 0) × (allocated_in (table_of t) g < 2 ^ 29)
-within_capacity t g =
-    let n : ℕ = t.count in
-    let few : n ≤ length t.entries = let x = t.few in let y = t.whole in omega arith in
-    let c = count_is n t.entries few in
-    ⊎_elim
-    (λ (h : g < n).
-    let a = allocated_is n g t.entries few h in
-    let b = capacity_at (table_of t) g ∙ ap (λ (s : Segment). s.capacity) (entry_is n g t.entries few h) in
-    let k = t.bounded g h in
-    (omega arith, omega arith))
-    (λ (h : n ≤ g). let z = allocated_past (table_of t) g (omega arith) in (omega arith, omega arith))
-    (cases_lt g n)
+within_capacity t g = (allocated_within (lib.ListN.take t.count t.entries) g, allocated_small (lib.ListN.take t.count t.entries) g)
 
 -- ## Words inside
 
@@ -86,7 +70,5 @@ rewritten_sized s t p e = p.same_lengths ∙ (e ∙ ap capacities (sym p.same_ta
 -- a segment of which something is allocated is one of 64
 pub segment_few : (t : SegmentTable) (g : ℕ) → 1 ≤ allocated_in (table_of t) g → g < 64
 segment_few t g h =
-    let few : t.count ≤ length t.entries = let x = t.few in let y = t.whole in omega arith in
-    let c = count_is t.count t.entries few in
-    let b = t.few in
+    let b = segments_few t in
     ⊎_elim (λ (k : g < 64). k) (λ (k : 64 ≤ g). let z = allocated_past (table_of t) g (omega arith) in absurd (omega arith)) (cases_lt g 64)

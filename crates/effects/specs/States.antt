@@ -2,6 +2,7 @@
 use Rattle.std.specs.Prelude.{◌≡◌, ℕ, ◌<◌, ◌≤◌, List, ◌++◌, Option}
 use Rattle.table.specs.Segments.{allocated_in, capacities, all_fresh}
 use Rattle.table.specs.Meaning.{table_of}
+use Rattle.segments.specs.Meaning.{Meaning}
 use Rattle.arena.specs.declared.BuilderArena.{BuilderArena}
 use Rattle.law.specs.Law.{Source, State, memory, lengths, zero_segments}
 
@@ -11,6 +12,13 @@ meant segments offers first x = record { segments = segments x; offers = offers 
 
 abbrev pub state_of : {X : Type 0} → Source X → BuilderArena X → State
 state_of S a = record { source = S a.source; table = table_of a.table }
+
+-- the same by what a type of sources means: of S it is `S.Source`
+abbrev pub source_of : {X F : Type 0} → Meaning X F → Source X
+source_of M = meant M.segments M.offers M.first
+
+abbrev pub state : {X F : Type 0} → Meaning X F → BuilderArena X → State
+state M = state_of (source_of M)
 
 -- table and source have segments of the same sizes
 abbrev pub Sized : State → Type 0

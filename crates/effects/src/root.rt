@@ -1,7 +1,7 @@
 // The root word of a message.
 ghost use Rattle.std.specs.Prelude.{◌≡◌, ℕ};
 ghost use Rattle.table.specs.Placing.{root};
-ghost use Rattle.effects.specs.States.{meant, state_of};
+ghost use Rattle.effects.specs.States.{source_of, state};
 ghost use Rattle.effects.specs.Parts.{Allocates};
 
 use arena::{BuilderArena, NoSpace};
@@ -11,7 +11,7 @@ use segments::source::Source;
 pub fn ensure_root<S: Source>(
     arena: &mut BuilderArena<S>,
 ) -> Result<(usize, u32), NoSpace<S::Fault>>
-    ensures outcome { Allocates (meant S.Reading.segments S.Source.offers S.Source.first) root 1 (state_of (meant S.Reading.segments S.Source.offers S.Source.first) arena.old) result (λ p. p) (state_of (meant S.Reading.segments S.Source.offers S.Source.first) arena.new) }
+    ensures outcome { Allocates (source_of S.Source) root 1 (state S.Source arena.old) result (λ p. p) (state S.Source arena.new) }
 {
     if arena.table.allocated(0) != 0 {
         return Ok((0, 0));

@@ -16,8 +16,9 @@ use Rattle.law.specs.Reads.{number_word}
 use Rattle.law.specs.Law.{State, memory}
 use Rattle.law.proofs.Fitting.{nine, fits_word}
 use Rattle.walk.specs.Shapes.{shape_meant}
-use Rattle.judging.specs.declared.site.Held.{Held}
-use Rattle.judging.specs.Sites.{Leads}
+use Rattle.walk.specs.declared.held.Held.{Held}
+use Rattle.walk.specs.declared.spot.Spot.{Spot}
+use Rattle.walk.specs.Holding.{Leads}
 use Rattle.effects.specs.Makes.{Slot}
 use Rattle.making.specs.Numbers.{Numbers}
 
@@ -94,16 +95,17 @@ unwritten H g w u h code i x e r =
     ap (λ (m : Making). makes H g w u m r) (cond-true (eqb (element_bits code) 0) keep (numbering h code i x u) (eq-eqb (element_bits code) 0 e))
 
 -- as the code finds the word
-module _ (s : State) (g w : ℕ) (held : Held) (leads : Leads (memory s) g w held) (home : Home) (c code i x m k : ℕ) (same : c ≡ code) (b : 0 < element_bits code)
-    (m_is : m ≡ number_word (shape_meant held.shape) home c i) (k_is : k ≡ (held.landing.start + m) % 18446744073709551616) where
+module _ (s : State) (g w : ℕ) (held : Held) (leads : Leads (memory s) g w held) (home : Home) (c code i x m : ℕ) (spot : Spot) (same : c ≡ code) (b : 0 < element_bits code)
+    (m_is : m ≡ number_word (shape_meant held.shape) home c i) (seg_at : spot.segment ≡ held.landing.start.segment)
+    (word_at : spot.word ≡ (held.landing.start.word + m) % 18446744073709551616) where
   abbrev H : Memory
   H = memory s
 
   abbrev at : Landing
   at = land H g w
 
-  seg_is : held.landing.segment ≡ at.seg
-  seg_is = ap (λ (z : Landing). z.seg) leads.lands
+  seg_is : spot.segment ≡ at.seg
+  seg_is = seg_at ∙ ap (λ (z : Landing). z.seg) leads.lands
 
   module _ (sh : Shape) (dat : ℕ → ℕ → ℕ) (kid : ℕ → ℕ → Value) (slot : Slot s g w (object sh dat kid)) (none : no_number home code i sh ≡ 0) where
     shaped : shape_meant held.shape ≡ sh
@@ -112,20 +114,20 @@ module _ (s : State) (g w : ℕ) (held : Held) (leads : Leads (memory s) g w hel
     word_is : m ≡ number_word sh home code i
     word_is = m_is ∙ (ap (λ (z : Shape). number_word z home c i) shaped ∙ ap (λ (z : ℕ). number_word sh home z i) same)
 
-    there_is : (k ≡ at.pos + number_word sh home code i) × (k < allocated_in s.table at.seg)
+    there_is : (spot.word ≡ at.pos + number_word sh home code i) × (spot.word < allocated_in s.table at.seg)
     there_is =
-        let p : held.landing.start ≡ at.pos = ap (λ (z : Landing). z.pos) leads.lands in
+        let p : held.landing.start.word ≡ at.pos = ap (λ (z : Landing). z.pos) leads.lands in
         let below = number_below sh home code i b none in
         let fits = slot.shown.1.inside in
         let bound = slot.small at.seg in
         let q = word_is in
         (omega arith, omega arith)
 
-  pub number_inside : (u : Value) → Slot s g w u → no_number_in home code i u ≡ 0 → k < allocated_in s.table held.landing.segment
+  pub number_inside : (u : Value) → Slot s g w u → no_number_in home code i u ≡ 0 → spot.word < allocated_in s.table spot.segment
   number_inside null slot e = absurd (omega arith)
   number_inside (object sh dat kid) slot e = rw seg_is (there_is sh dat kid slot e).1
 
-  pub numbered : (u : Value) (N : Memory) → Slot s g w u → no_number_in home code i u ≡ 0 → N ≡ with_number H held.landing.segment k code i x →
+  pub numbered : (u : Value) (N : Memory) → Slot s g w u → no_number_in home code i u ≡ 0 → N ≡ with_number H spot.segment spot.word code i x →
       Numbers H g w u (making (write home code i x) u) N
   numbered null N slot e f r = absurd (omega arith)
   numbered (object sh dat kid) N slot e f r =
@@ -134,7 +136,7 @@ module _ (s : State) (g w : ℕ) (held : Held) (leads : Leads (memory s) g w hel
       ap (λ (m : Making). makes H g w u m r) (cond-false (eqb (element_bits code) 0) keep (numbering home code i x u) some) ∙
       (written H (allocated_in s.table) g w dat kid code i x b r sh home slot.shown e ∙
       ap (λ (M : Memory). got r (record { words = M; pair = (at.seg, at.pos) }))
-      (sym (f ∙ (ap (λ (z : ℕ). with_number H z k code i x) seg_is ∙ ap (λ (z : ℕ). with_number H at.seg z code i x) (there_is sh dat kid slot e).0))))
+      (sym (f ∙ (ap (λ (z : ℕ). with_number H z spot.word code i x) seg_is ∙ ap (λ (z : ℕ). with_number H at.seg z code i x) (there_is sh dat kid slot e).0))))
 
 -- an element has bits or none, as the code finds it
 pub some_bits : (n c code : ℕ) → n ≡ element_bits c → c ≡ code → (n ≡ 0 → ⊥) → 0 < element_bits code

@@ -3,55 +3,58 @@ ghost use Rattle.std.specs.Prelude.{◌≡◌, ℕ, ◌+◌, ◌^◌, ◌<◌, B
 ghost use Rattle.tree.specs.Value.{Value};
 ghost use Rattle.law.specs.Machine.{too_large, text_shape, new, spell};
 ghost use Rattle.walk.specs.Shapes.{shape_meant};
-ghost use Rattle.effects.specs.States.{meant, state_of};
+ghost use Rattle.effects.specs.States.{source_of, state};
 ghost use Rattle.effects.specs.Makes.{Slot, Makes};
 
 use super::fill::fill_slot;
 use arena::{BuilderArena, NoSpace};
+use objects::object::NewObject;
 use objects::place::place_shape;
 use objects::text::spell;
 use segments::source::Source;
 use walk::shape::Shape;
+use walk::spot::Spot;
 use wire::sizes::ElementSize;
 
-// Replaces the value of the slot in word `w` of segment `g` by an object of this shape, and answers where it lies.
+// Replaces the value of the slot by an object of this shape, and answers where it lies.
 pub fn init_object<S: Source>(
     arena: &mut BuilderArena<S>,
-    g: usize,
-    w: usize,
+    slot: Spot,
     shape: Shape,
-) -> Result<(usize, usize), NoSpace<S::Fault>>
-    ensures outcome { (u : Value) → Slot (state_of (meant S.Reading.segments S.Source.offers S.Source.first) arena.old) g w u → too_large (shape_meant shape) ≡ false → Makes (meant S.Reading.segments S.Source.offers S.Source.first) (state_of (meant S.Reading.segments S.Source.offers S.Source.first) arena.old) g w u (new (shape_meant shape)) result (state_of (meant S.Reading.segments S.Source.offers S.Source.first) arena.new) }
+) -> Result<Spot, NoSpace<S::Fault>>
+    ensures outcome { (u : Value) → Slot (state S.Source arena.old) slot.segment slot.word u → too_large (shape_meant shape) ≡ false → Makes (source_of S.Source) (state S.Source arena.old) slot.segment slot.word u (new (shape_meant shape)) result (state S.Source arena.new) }
 {
-    let (s, t) = place_shape(arena, shape, g, w)?;
-    fill_slot(arena, shape, g, w, s, t);
-    Ok((s, t))
+    let start = place_shape(arena, shape, slot)?;
+    fill_slot(arena, NewObject { shape, slot, start });
+    Ok(start)
 }
 
-// The shape of a text: its bytes and a zero byte.
+// The shape of a text: its bytes and a zero byte, as far as 32 bits count.
 fn text_shape(bytes: &[u8]) -> Shape
     ensures value { length bytes.now + 1 < 2 ^ 29 → shape_meant result ≡ text_shape bytes.now }
 {
-    let n = bytes.len();
-    if n < 1 << 29 {
-        Shape::Plain(ElementSize::Byte, n as u32 + 1)
-    } else {
-        Shape::Plain(ElementSize::Byte, u32::MAX)
-    }
+    let count = bytes.len().saturating_add(1).min(u32::MAX as usize);
+    Shape::Plain(ElementSize::Byte, count as u32)
 }
 
-// Replaces the value of the slot in word `w` of segment `g` by a text, and answers where it lies.
+// Replaces the value of the slot by a text, and answers where it lies.
 pub fn init_text<S: Source>(
     arena: &mut BuilderArena<S>,
-    g: usize,
-    w: usize,
+    slot: Spot,
     bytes: &[u8],
-) -> Result<(usize, usize), NoSpace<S::Fault>>
-    ensures outcome { (u : Value) → Slot (state_of (meant S.Reading.segments S.Source.offers S.Source.first) arena.old) g w u → length bytes.now + 1 < 2 ^ 29 → Makes (meant S.Reading.segments S.Source.offers S.Source.first) (state_of (meant S.Reading.segments S.Source.offers S.Source.first) arena.old) g w u (spell bytes.now) result (state_of (meant S.Reading.segments S.Source.offers S.Source.first) arena.new) }
+) -> Result<Spot, NoSpace<S::Fault>>
+    ensures outcome { (u : Value) → Slot (state S.Source arena.old) slot.segment slot.word u → length bytes.now + 1 < 2 ^ 29 → Makes (source_of S.Source) (state S.Source arena.old) slot.segment slot.word u (spell bytes.now) result (state S.Source arena.new) }
 {
     let shape = text_shape(bytes);
-    let (s, t) = place_shape(arena, shape, g, w)?;
-    fill_slot(arena, shape, g, w, s, t);
-    spell(arena, s, t, bytes);
-    Ok((s, t))
+    let text = place_shape(arena, shape, slot)?;
+    fill_slot(
+        arena,
+        NewObject {
+            shape,
+            slot,
+            start: text,
+        },
+    );
+    spell(arena, text, bytes);
+    Ok(text)
 }

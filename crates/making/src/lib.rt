@@ -4,4 +4,4 @@
 pub mod clear;
 pub mod fill;
 pub mod init;
-pub mod number;
+pub mod set;

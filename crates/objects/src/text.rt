@@ -5,18 +5,19 @@ ghost use Rattle.table.specs.Segments.{allocated_in};
 ghost use Rattle.law.specs.Law.{memory};
 ghost use Rattle.law.specs.Machine.{text_shape};
 ghost use Rattle.law.specs.Exact.{text_word, spelled};
-ghost use Rattle.effects.specs.States.{meant, state_of, Sized, Rewritten};
+ghost use Rattle.effects.specs.States.{state, Sized, Rewritten};
 
 use arena::BuilderArena;
 use effects::words::write_word;
 use segments::source::Source;
+use walk::spot::Spot;
 
 // Byte `i`, 0 past the end.
 fn byte_at(bytes: &[u8], i: usize) -> u64
     ensures value { result ≡ slice_index bytes.now i }
     ensures small { result < 256 }
 {
-    if i < bytes.len() { bytes[i] as u64 } else { 0 }
+    bytes.get(i).copied().unwrap_or(0) as u64
 }
 
 // Word `k` of the text.
@@ -35,12 +36,16 @@ fn text_word(bytes: &[u8], k: usize) -> u64
         + byte_at(bytes, at + 7) * 0x100_0000_0000_0000
 }
 
-// Writes the bytes and a zero byte into the words from word `t` of segment `s` on, each word once.
-pub fn spell<S: Source>(arena: &mut BuilderArena<S>, s: usize, t: usize, bytes: &[u8])
-    ensures rewritten { Rewritten (state_of (meant S.Reading.segments S.Source.offers S.Source.first) arena.old) (state_of (meant S.Reading.segments S.Source.offers S.Source.first) arena.new) }
-    ensures words { Sized (state_of (meant S.Reading.segments S.Source.offers S.Source.first) arena.old) → t + size (text_shape bytes.now) ≤ allocated_in (state_of (meant S.Reading.segments S.Source.offers S.Source.first) arena.old).table s → memory (state_of (meant S.Reading.segments S.Source.offers S.Source.first) arena.new) ≡ spelled (memory (state_of (meant S.Reading.segments S.Source.offers S.Source.first) arena.old)) s t bytes.now }
+// Writes the bytes and a zero byte into the words from `start` on, each word once: by the word's number, since the last word may have no byte.
+pub fn spell<S: Source>(arena: &mut BuilderArena<S>, start: Spot, bytes: &[u8])
+    ensures rewritten { Rewritten (state S.Source arena.old) (state S.Source arena.new) }
+    ensures words { Sized (state S.Source arena.old) → start.word + size (text_shape bytes.now) ≤ allocated_in (state S.Source arena.old).table start.segment → memory (state S.Source arena.new) ≡ spelled (memory (state S.Source arena.old)) start.segment start.word bytes.now }
 {
     for k in 0..bytes.len() / 8 + 1 {
-        write_word(arena, s, t.saturating_add(k), text_word(bytes, k));
+        let spot = Spot {
+            word: start.word.saturating_add(k),
+            ..start
+        };
+        write_word(arena, spot, text_word(bytes, k));
     }
 }

@@ -7,85 +7,76 @@ ghost use Rattle.law.specs.Law.{memory};
 ghost use Rattle.law.specs.Machine.{too_large};
 ghost use Rattle.law.specs.Exact.{padded, tagged, opened, slot_word};
 ghost use Rattle.walk.specs.Shapes.{shape_meant};
-ghost use Rattle.effects.specs.States.{meant, state_of, Sized, Rewritten};
-ghost use Rattle.objects.specs.Rooms.{RoomThere};
+ghost use Rattle.effects.specs.States.{state, Sized, Rewritten};
+ghost use Rattle.objects.specs.Rooms.{There};
 
-use super::pointer::{has_no_words, pointer_to, slot_pointer};
+use super::object::NewObject;
+use super::pointer::pointer_to;
 use arena::BuilderArena;
 use effects::words::write_word;
 use elements::kinds::PrimitiveElement;
 use elements::put_element;
 use segments::source::Source;
-use walk::landing::word_at;
 use walk::shape::Shape;
+use walk::spot::{Spot, word_at};
 use wire::pointers::WirePointer;
 
-// Writes the landing pad of an object in word `t` of segment `s`, if its slot is in another segment `g`: the word before it.
-fn write_pad<S: Source>(arena: &mut BuilderArena<S>, shape: Shape, g: usize, s: usize, t: usize)
-    ensures rewritten { Rewritten (state_of (meant S.Reading.segments S.Source.offers S.Source.first) arena.old) (state_of (meant S.Reading.segments S.Source.offers S.Source.first) arena.new) }
-    ensures words { Sized (state_of (meant S.Reading.segments S.Source.offers S.Source.first) arena.old) → too_large (shape_meant shape) ≡ false → RoomThere (state_of (meant S.Reading.segments S.Source.offers S.Source.first) arena.old).table g s t (shape_meant shape) → memory (state_of (meant S.Reading.segments S.Source.offers S.Source.first) arena.new) ≡ padded (memory (state_of (meant S.Reading.segments S.Source.offers S.Source.first) arena.old)) g s t (shape_meant shape) }
+// Writes the landing pad of the object, if its slot is in another segment: the word before it.
+fn write_pad<S: Source>(arena: &mut BuilderArena<S>, object: NewObject)
+    ensures rewritten { Rewritten (state S.Source arena.old) (state S.Source arena.new) }
+    ensures words { Sized (state S.Source arena.old) → too_large (shape_meant object.shape) ≡ false → There (state S.Source arena.old) object → memory (state S.Source arena.new) ≡ padded (memory (state S.Source arena.old)) object.slot.segment object.start.segment object.start.word (shape_meant object.shape) }
 {
-    if s == g {
+    let NewObject { shape, slot, start } = object;
+    if start.segment == slot.segment {
         return;
     }
-    if has_no_words(shape) {
+    if shape.has_no_words() {
         return;
     }
-    let pad = t.saturating_sub(1);
-    write_word(arena, s, pad, pointer_to(shape, pad, t).word);
+    let pad = Spot {
+        word: start.word.saturating_sub(1),
+        ..start
+    };
+    write_word(arena, pad, pointer_to(shape, pad.word, start.word).word);
 }
 
-// Writes the tag of a struct list in word `t` of segment `s`.
-fn write_tag<S: Source>(arena: &mut BuilderArena<S>, shape: Shape, s: usize, t: usize)
-    ensures rewritten { Rewritten (state_of (meant S.Reading.segments S.Source.offers S.Source.first) arena.old) (state_of (meant S.Reading.segments S.Source.offers S.Source.first) arena.new) }
-    ensures words { (g : ℕ) → Sized (state_of (meant S.Reading.segments S.Source.offers S.Source.first) arena.old) → too_large (shape_meant shape) ≡ false → RoomThere (state_of (meant S.Reading.segments S.Source.offers S.Source.first) arena.old).table g s t (shape_meant shape) → memory (state_of (meant S.Reading.segments S.Source.offers S.Source.first) arena.new) ≡ tagged (memory (state_of (meant S.Reading.segments S.Source.offers S.Source.first) arena.old)) s t (shape_meant shape) }
+// Writes the tag of a struct list, its first word.
+fn write_tag<S: Source>(arena: &mut BuilderArena<S>, object: NewObject)
+    ensures rewritten { Rewritten (state S.Source arena.old) (state S.Source arena.new) }
+    ensures words { Sized (state S.Source arena.old) → too_large (shape_meant object.shape) ≡ false → There (state S.Source arena.old) object → memory (state S.Source arena.new) ≡ tagged (memory (state S.Source arena.old)) object.start.segment object.start.word (shape_meant object.shape) }
 {
-    if let Shape::Composite(n, size) = shape {
-        write_word(arena, s, t, WirePointer::tag(n, size).word);
+    if let Shape::Composite(n, size) = object.shape {
+        write_word(arena, object.start, WirePointer::tag(n, size).word);
     }
 }
 
-// Writes pad and tag of a new object of zeros and nulls in word `t` of segment `s`, for a slot in segment `g`.
-pub fn open_object<S: Source>(
-    arena: &mut BuilderArena<S>,
-    shape: Shape,
-    g: usize,
-    s: usize,
-    t: usize,
-)
-    ensures rewritten { Rewritten (state_of (meant S.Reading.segments S.Source.offers S.Source.first) arena.old) (state_of (meant S.Reading.segments S.Source.offers S.Source.first) arena.new) }
-    ensures words { Sized (state_of (meant S.Reading.segments S.Source.offers S.Source.first) arena.old) → too_large (shape_meant shape) ≡ false → RoomThere (state_of (meant S.Reading.segments S.Source.offers S.Source.first) arena.old).table g s t (shape_meant shape) → memory (state_of (meant S.Reading.segments S.Source.offers S.Source.first) arena.new) ≡ opened (memory (state_of (meant S.Reading.segments S.Source.offers S.Source.first) arena.old)) g s t (shape_meant shape) }
+// Writes pad and tag of an object of zeros and nulls.
+pub fn open_object<S: Source>(arena: &mut BuilderArena<S>, object: NewObject)
+    ensures rewritten { Rewritten (state S.Source arena.old) (state S.Source arena.new) }
+    ensures words { Sized (state S.Source arena.old) → too_large (shape_meant object.shape) ≡ false → There (state S.Source arena.old) object → memory (state S.Source arena.new) ≡ opened (memory (state S.Source arena.old)) object.slot.segment object.start.segment object.start.word (shape_meant object.shape) }
 {
-    write_pad(arena, shape, g, s, t);
-    write_tag(arena, shape, s, t);
+    write_pad(arena, object);
+    write_tag(arena, object);
 }
 
-// Lets the slot in word `w` of segment `g` lead to the object of this shape in word `t` of segment `s`.
-pub fn aim_slot<S: Source>(
-    arena: &mut BuilderArena<S>,
-    shape: Shape,
-    g: usize,
-    w: usize,
-    s: usize,
-    t: usize,
-)
-    ensures rewritten { Rewritten (state_of (meant S.Reading.segments S.Source.offers S.Source.first) arena.old) (state_of (meant S.Reading.segments S.Source.offers S.Source.first) arena.new) }
-    ensures words { Sized (state_of (meant S.Reading.segments S.Source.offers S.Source.first) arena.old) → too_large (shape_meant shape) ≡ false → w < allocated_in (state_of (meant S.Reading.segments S.Source.offers S.Source.first) arena.old).table g → RoomThere (state_of (meant S.Reading.segments S.Source.offers S.Source.first) arena.old).table g s t (shape_meant shape) → memory (state_of (meant S.Reading.segments S.Source.offers S.Source.first) arena.new) ≡ change (memory (state_of (meant S.Reading.segments S.Source.offers S.Source.first) arena.old)) g w (slot_word g w s t (shape_meant shape)) }
+// Lets the slot lead to the object.
+pub fn aim_slot<S: Source>(arena: &mut BuilderArena<S>, object: NewObject)
+    ensures rewritten { Rewritten (state S.Source arena.old) (state S.Source arena.new) }
+    ensures words { Sized (state S.Source arena.old) → too_large (shape_meant object.shape) ≡ false → object.slot.word < allocated_in (state S.Source arena.old).table object.slot.segment → There (state S.Source arena.old) object → memory (state S.Source arena.new) ≡ change (memory (state S.Source arena.old)) object.slot.segment object.slot.word (slot_word object.slot.segment object.slot.word object.start.segment object.start.word (shape_meant object.shape)) }
 {
-    write_word(arena, g, w, slot_pointer(shape, g, w, s, t).word);
+    write_word(arena, object.slot, object.slot_pointer().word);
 }
 
-// Puts a number of its kind at the index into word `w` of segment `g`.
+// Puts a number of its kind at the index into the word there.
 pub fn put_number<S: Source, E: PrimitiveElement>(
     arena: &mut BuilderArena<S>,
-    g: usize,
-    w: usize,
+    spot: Spot,
     index: usize,
     x: E,
 )
-    ensures rewritten { Rewritten (state_of (meant S.Reading.segments S.Source.offers S.Source.first) arena.old) (state_of (meant S.Reading.segments S.Source.offers S.Source.first) arena.new) }
-    ensures words { Sized (state_of (meant S.Reading.segments S.Source.offers S.Source.first) arena.old) → w < allocated_in (state_of (meant S.Reading.segments S.Source.offers S.Source.first) arena.old).table g → memory (state_of (meant S.Reading.segments S.Source.offers S.Source.first) arena.new) ≡ change (memory (state_of (meant S.Reading.segments S.Source.offers S.Source.first) arena.old)) g w (element_put (memory (state_of (meant S.Reading.segments S.Source.offers S.Source.first) arena.old) g w) E.PrimitiveElement.code index (E.PrimitiveElement.bits x)) }
+    ensures rewritten { Rewritten (state S.Source arena.old) (state S.Source arena.new) }
+    ensures words { Sized (state S.Source arena.old) → spot.word < allocated_in (state S.Source arena.old).table spot.segment → memory (state S.Source arena.new) ≡ change (memory (state S.Source arena.old)) spot.segment spot.word (element_put (memory (state S.Source arena.old) spot.segment spot.word) E.PrimitiveElement.code index (E.PrimitiveElement.bits x)) }
 {
-    let word = word_at(&arena.source, g, w);
-    write_word(arena, g, w, put_element::<E>(word, index, x));
+    let word = word_at(&arena.source, spot);
+    write_word(arena, spot, put_element::<E>(word, index, x));
 }

@@ -6,69 +6,60 @@ ghost use Rattle.law.specs.Machine.{too_large, rebuild};
 ghost use Rattle.law.specs.Exact.{opened, copied, closed};
 ghost use Rattle.walk.specs.Landings.{landing_of};
 ghost use Rattle.walk.specs.Shapes.{shape_meant};
-ghost use Rattle.judging.specs.Sites.{Leads};
-ghost use Rattle.effects.specs.States.{meant, state_of, Rewritten};
+ghost use Rattle.walk.specs.Holding.{Leads};
+ghost use Rattle.effects.specs.States.{source_of, state, Rewritten};
 ghost use Rattle.effects.specs.Makes.{Slot, Makes};
 ghost use Rattle.widen.specs.Numbers.{Put};
 ghost use Rattle.rebuilding.specs.Growth.{Larger};
 ghost use Rattle.rebuilding.specs.Steps.{Opens, Closes};
 
 use arena::{BuilderArena, NoSpace};
-use judging::site::Held;
 use layout::zeroing::zero_landing;
+use objects::object::NewObject;
 use objects::place::place_shape;
 use objects::write::{aim_slot, open_object};
 use segments::source::Source;
+use walk::held::Held;
 use walk::shape::Shape;
+use walk::spot::Spot;
 use widen::children::move_children;
 use widen::numbers::copy_numbers;
 
-// Writes the larger object's pad and tag and the numbers of the old one, in word `t` of segment `s`.
-fn open_larger<S: Source>(
-    arena: &mut BuilderArena<S>,
-    g: usize,
-    held: Held,
-    s: usize,
-    t: usize,
-    larger: Shape,
-)
-    ensures rewritten { Rewritten (state_of (meant S.Reading.segments S.Source.offers S.Source.first) arena.old) (state_of (meant S.Reading.segments S.Source.offers S.Source.first) arena.new) }
-    ensures words { (mark : State) → Opens mark (state_of (meant S.Reading.segments S.Source.offers S.Source.first) arena.old) g (landing_of held.landing) (shape_meant held.shape) s t (shape_meant larger) → Put mark (copied (memory mark) (landing_of held.landing) (shape_meant held.shape) s t (shape_meant larger) (opened (memory mark) g s t (shape_meant larger))) (state_of (meant S.Reading.segments S.Source.offers S.Source.first) arena.new) }
+// Writes the new object's pad and tag and the numbers of the old one.
+fn open_larger<S: Source>(arena: &mut BuilderArena<S>, old: Held, new: NewObject)
+    ensures rewritten { Rewritten (state S.Source arena.old) (state S.Source arena.new) }
+    ensures words { (mark : State) → Opens mark (state S.Source arena.old) new.slot.segment (landing_of old.landing) (shape_meant old.shape) new.start.segment new.start.word (shape_meant new.shape) → Put mark (copied (memory mark) (landing_of old.landing) (shape_meant old.shape) new.start.segment new.start.word (shape_meant new.shape) (opened (memory mark) new.slot.segment new.start.segment new.start.word (shape_meant new.shape))) (state S.Source arena.new) }
 {
-    open_object(arena, larger, g, s, t);
-    copy_numbers(arena, held.landing, held.shape, s, t, larger);
+    open_object(arena, new);
+    copy_numbers(arena, old, new);
 }
 
-// Zeroes the old object and its pads, and lets the slot in word `w` of segment `g` lead to the larger one.
-fn close_old<S: Source>(
-    arena: &mut BuilderArena<S>,
-    g: usize,
-    w: usize,
-    held: Held,
-    s: usize,
-    t: usize,
-    larger: Shape,
-)
-    ensures rewritten { Rewritten (state_of (meant S.Reading.segments S.Source.offers S.Source.first) arena.old) (state_of (meant S.Reading.segments S.Source.offers S.Source.first) arena.new) }
-    ensures words { Closes (state_of (meant S.Reading.segments S.Source.offers S.Source.first) arena.old) g w (landing_of held.landing) (shape_meant held.shape) s t (shape_meant larger) → memory (state_of (meant S.Reading.segments S.Source.offers S.Source.first) arena.new) ≡ closed (memory (state_of (meant S.Reading.segments S.Source.offers S.Source.first) arena.old)) g w (landing_of held.landing) (shape_meant held.shape) s t (shape_meant larger) }
+// Zeroes the old object and its pads, and lets the slot lead to the new one.
+fn close_old<S: Source>(arena: &mut BuilderArena<S>, old: Held, new: NewObject)
+    ensures rewritten { Rewritten (state S.Source arena.old) (state S.Source arena.new) }
+    ensures words { Closes (state S.Source arena.old) new.slot.segment new.slot.word (landing_of old.landing) (shape_meant old.shape) new.start.segment new.start.word (shape_meant new.shape) → memory (state S.Source arena.new) ≡ closed (memory (state S.Source arena.old)) new.slot.segment new.slot.word (landing_of old.landing) (shape_meant old.shape) new.start.segment new.start.word (shape_meant new.shape) }
 {
-    zero_landing(&mut arena.source, held.landing, held.shape);
-    aim_slot(arena, larger, g, w, s, t);
+    zero_landing(&mut arena.source, old);
+    aim_slot(arena, new);
 }
 
-// Rebuilds the object to which the slot in word `w` of segment `g` leads in a larger shape, and answers where it lies then.
+// Rebuilds the object to which the slot leads in a larger shape, and answers where it lies then.
 pub fn rebuild_object<S: Source>(
     arena: &mut BuilderArena<S>,
-    g: usize,
-    w: usize,
-    held: Held,
+    slot: Spot,
+    old: Held,
     larger: Shape,
-) -> Result<(usize, usize), NoSpace<S::Fault>>
-    ensures outcome { (u : Value) → Slot (state_of (meant S.Reading.segments S.Source.offers S.Source.first) arena.old) g w u → Leads (memory (state_of (meant S.Reading.segments S.Source.offers S.Source.first) arena.old)) g w held → Larger (shape_meant held.shape) (shape_meant larger) → too_large (shape_meant larger) ≡ false → Makes (meant S.Reading.segments S.Source.offers S.Source.first) (state_of (meant S.Reading.segments S.Source.offers S.Source.first) arena.old) g w u (rebuild (shape_meant larger)) result (state_of (meant S.Reading.segments S.Source.offers S.Source.first) arena.new) }
+) -> Result<Spot, NoSpace<S::Fault>>
+    ensures outcome { (u : Value) → Slot (state S.Source arena.old) slot.segment slot.word u → Leads (memory (state S.Source arena.old)) slot.segment slot.word old → Larger (shape_meant old.shape) (shape_meant larger) → too_large (shape_meant larger) ≡ false → Makes (source_of S.Source) (state S.Source arena.old) slot.segment slot.word u (rebuild (shape_meant larger)) result (state S.Source arena.new) }
 {
-    let (s, t) = place_shape(arena, larger, g, w)?;
-    open_larger(arena, g, held, s, t, larger);
-    move_children(arena, held.landing, held.shape, s, t, larger)?;
-    close_old(arena, g, w, held, s, t, larger);
-    Ok((s, t))
+    let start = place_shape(arena, larger, slot)?;
+    let new = NewObject {
+        shape: larger,
+        slot,
+        start,
+    };
+    open_larger(arena, old, new);
+    move_children(arena, old, new)?;
+    close_old(arena, old, new);
+    Ok(start)
 }

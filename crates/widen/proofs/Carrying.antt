@@ -18,6 +18,8 @@ use Rattle.law.proofs.Inits.{got_here}
 use Rattle.law.proofs.Children.{got_then}
 use Rattle.law.proofs.Moving.{got_at}
 use Rattle.law.proofs.Rooms.{after_moved}
+use Rattle.walk.specs.declared.spot.Spot.{Spot}
+use Rattle.walk.specs.Spots.{spot_at}
 use Rattle.effects.specs.States.{Prepared}
 use Rattle.effects.specs.Parts.{Went, Failed}
 use Rattle.effects.proofs.Writing.{within_capacity}
@@ -198,16 +200,22 @@ pub after_row : (l : Landing) (sh : Shape) (s t : ℕ) (sh' : Shape) (i : ℕ) (
 after_row l sh s t sh' i r H = after_each (pointers sh) (child_moves l sh s t sh' i) r H (after_child l sh s t sh' i)
 
 -- the next child of row i
-pub next_child : {X A E : Type 0} (S : Source X) (mark b n e : State) (u : SegmentTable) (l : Landing) (sh : Shape) (s t : ℕ) (sh' : Shape) (i j w q : ℕ) →
+pub next_child : {X A E : Type 0} (S : Source X) (mark b n e : State) (u : SegmentTable) (l : Landing) (sh : Shape) (s t : ℕ) (sh' : Shape) (i j : ℕ) (from to : Spot) →
     n.table ≡ table_of u → Carries mark b l sh s t sh' → Reached S mark (child_moves l sh s t sh' i) j b n → i < rows sh → j < pointers sh →
-    w ≡ (l.pos + slot sh i j) % 2 ^ 64 → q ≡ (t + slot sh' i j) % 2 ^ 64 → (r : Result A (NoSpace E)) →
-    (Movable n l.seg w s q → Moved S l.seg w s q n r e) → Turned S mark (child_moves l sh s t sh' i j) n r e
-next_child S mark b n e u l sh s t sh' i j w q at_u c p hi hj at_w at_q r h =
+    from ≡ spot_at l.seg ((l.pos + slot sh i j) % 2 ^ 64) → to ≡ spot_at s ((t + slot sh' i j) % 2 ^ 64) → (r : Result A (NoSpace E)) →
+    (Movable n from.segment from.word to.segment to.word → Moved S from.segment from.word to.segment to.word n r e) →
+    Turned S mark (child_moves l sh s t sh' i j) n r e
+next_child S mark b n e u l sh s t sh' i j from to at_u c p hi hj at_from at_to r h =
+    let w : ℕ = (l.pos + slot sh i j) % 2 ^ 64 in
+    let q : ℕ = (t + slot sh' i j) % 2 ^ 64 in
     let c' : Carries mark n l sh s t sh' =
     carries_on mark b n l sh s t sh' c p.1 (reached_grown S mark (child_moves l sh s t sh' i) b (after_child l sh s t sh' i) j n p) in
     let small : (x : ℕ) → allocated_in n.table x < 2 ^ 29 =
     λ x. subst (λ (k : Table). allocated_in k x < 2 ^ 29) (sym at_u) (within_capacity u x).1 in
-    child_turned mark n l sh s t sh' i j w q c' hi hj small at_w at_q S e r (h (movable mark n l sh s t sh' i j w q c' hi hj small at_w at_q))
+    let h' : Movable n l.seg w s q → Moved S l.seg w s q n r e =
+    subst (λ (z : Spot). Movable n l.seg w z.segment z.word → Moved S l.seg w z.segment z.word n r e) at_to
+    (subst (λ (z : Spot). Movable n z.segment z.word to.segment to.word → Moved S z.segment z.word to.segment to.word n r e) at_from h) in
+    child_turned mark n l sh s t sh' i j w q c' hi hj small refl refl S e r (h' (movable mark n l sh s t sh' i j w q c' hi hj small refl refl))
 
 -- the next row
 pub next_row : {X A E : Type 0} (S : Source X) (mark b n e : State) (l : Landing) (sh : Shape) (s t : ℕ) (sh' : Shape) (i : ℕ) →

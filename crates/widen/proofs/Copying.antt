@@ -12,7 +12,8 @@ use Rattle.law.specs.Exact.{loop}
 use Rattle.effects.specs.States.{Sized, Rewritten, Prepared}
 use Rattle.effects.proofs.Writing.{within_capacity}
 use Rattle.effects.proofs.Keeping.{prepared_written}
-use Rattle.widen.specs.Numbers.{number_of, Copies, number_copied, Put}
+use Rattle.walk.specs.Shapes.{number_of}
+use Rattle.widen.specs.Numbers.{Copies, number_copied, Put}
 
 -- ## Words that are written
 

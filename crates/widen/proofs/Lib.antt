@@ -4,3 +4,4 @@ pub mod Transfers
 pub mod Carrying
 pub mod Copying
 pub mod Premises
+pub mod Spots

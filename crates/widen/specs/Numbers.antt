@@ -9,12 +9,6 @@ use Rattle.law.specs.Law.{State, memory}
 use Rattle.law.specs.Exact.{loop}
 use Rattle.effects.specs.States.{Prepared}
 
--- the number of row i that a word of its object holds
-abbrev pub number_of : Shape → (word i : ℕ) → ℕ
-number_of (structure dw pw) word i = word
-number_of (plain c n) word i = element_in word (element_code c) i
-number_of (composite n dw pw) word i = word
-
 -- Since the mark, new words are prepared in the state b: the numbers of the object that lay at the mark by l in the shape sh can be
 -- written in word t of segment s in the shape sh', which was not allocated at the mark.
 pub record Copies (mark b : State) (l : Landing) (sh : Shape) (s t : ℕ) (sh' : Shape) : Type 0 where

@@ -16,7 +16,7 @@ returns g c = record {
       record {
         table_is = r.table ∙ (ap (rolled_back t) (sym is) ∙ table_back t m.table met caps full);
         segments_are = words_back m _ _ met sized clean prepared caps (subst (Rewound _ _ t) (sym is) r.words) r.sizes;
-        same_offers = r.offers;
-        same_first = r.first;
+        same_offers = r.steady.offers;
+        same_first = r.steady.first;
       };
 }

@@ -14,7 +14,7 @@ returns g c =
     record {
       rewritten = rewritten_then _ _ _ pq r.rewritten;
       words = λ from u same slot sized fit inside there.
-          filled _ _ _ _ c.args.g c.args.w u c.args.s c.args.t (shape_meant c.args.shape)
+          filled _ _ _ _ c.args.object.slot.segment c.args.object.slot.word u c.args.object.start.segment c.args.object.start.word (shape_meant c.args.object.shape)
           (p.words from u same slot sized inside)
           (q.words (rewritten_sized _ _ p.rewritten sized) fit (room_same _ _ _ _ _ _ p.rewritten.same_table there))
           (r.words (rewritten_sized _ _ pq sized) fit (inside_same _ _ _ _ pq.same_table inside) (room_same _ _ _ _ _ _ pq.same_table there));

@@ -12,5 +12,5 @@ abbrev pub invariant-loop-k : goal.invariant-loop-k
 invariant-loop-k g l =
     Rewritten (state_of (meant g.S.Reading.segments g.S.Source.offers g.S.Source.first) l.initial.arena) (state_of (meant g.S.Reading.segments g.S.Source.offers g.S.Source.first) l.arena) ×
     (Sized (state_of (meant g.S.Reading.segments g.S.Source.offers g.S.Source.first) l.initial.arena) →
-    l.t + size (text_shape l.bytes) ≤ allocated_in (state_of (meant g.S.Reading.segments g.S.Source.offers g.S.Source.first) l.initial.arena).table l.s →
-    memory (state_of (meant g.S.Reading.segments g.S.Source.offers g.S.Source.first) l.arena) ≡ partly (memory (state_of (meant g.S.Reading.segments g.S.Source.offers g.S.Source.first) l.initial.arena)) l.s l.t l.bytes l.k)
+    l.start.word + size (text_shape l.bytes) ≤ allocated_in (state_of (meant g.S.Reading.segments g.S.Source.offers g.S.Source.first) l.initial.arena).table l.start.segment →
+    memory (state_of (meant g.S.Reading.segments g.S.Source.offers g.S.Source.first) l.arena) ≡ partly (memory (state_of (meant g.S.Reading.segments g.S.Source.offers g.S.Source.first) l.initial.arena)) l.start.segment l.start.word l.bytes l.k)

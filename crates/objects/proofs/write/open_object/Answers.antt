@@ -11,7 +11,7 @@ returns g c =
     record {
       rewritten = rewritten_then _ _ _ p.rewritten q.rewritten;
       words = λ sized fit there.
-          tagged_after _ _ _ c.args.s c.args.t (shape_meant c.args.shape)
-          (q.words c.args.g (rewritten_sized _ _ p.rewritten sized) fit (room_same _ _ _ _ _ _ p.rewritten.same_table there))
+          tagged_after _ _ _ c.args.object.start.segment c.args.object.start.word (shape_meant c.args.object.shape)
+          (q.words (rewritten_sized _ _ p.rewritten sized) fit (room_same _ _ _ _ _ _ p.rewritten.same_table there))
           (p.words sized fit there);
     }

@@ -9,10 +9,10 @@ pub returns : goal.returns
 returns g c =
     let z = c.zero_landing.ensures in
     let a = c.aim_slot.ensures in
-    let r = zeroed_state _ _ _ _ _ _ _ z.lengths z.offers z.first in
+    let r = zeroed_state _ _ _ _ _ _ _ z.lengths z.steady.offers z.steady.first in
     record {
       rewritten = rewritten_then _ _ _ r a.rewritten;
       words =
-          closed_old _ _ _ c.args.g c.args.w (landing_of c.args.held.landing) (shape_meant c.args.held.shape) c.args.s c.args.t (shape_meant c.args.larger)
+          closed_old _ _ _ c.args.new.slot.segment c.args.new.slot.word (landing_of c.args.old.landing) (shape_meant c.args.old.shape) c.args.new.start.segment c.args.new.start.word (shape_meant c.args.new.shape)
           r z.own a.words;
     }

@@ -12,6 +12,6 @@ returns g c =
     record {
       rewritten = rewritten_then _ _ _ p.rewritten q.rewritten;
       words = λ mark o.
-          opened_larger mark _ _ _ c.args.g (landing_of c.args.held.landing) (shape_meant c.args.held.shape) c.args.s c.args.t (shape_meant c.args.larger)
+          opened_larger mark _ _ _ c.args.new.slot.segment (landing_of c.args.old.landing) (shape_meant c.args.old.shape) c.args.new.start.segment c.args.new.start.word (shape_meant c.args.new.shape)
           o p.rewritten (p.words o.copies.prepared.sized o.fits o.room) q.words;
     }

@@ -9,8 +9,8 @@ use Rattle.rebuilding.proofs.Rebuilding.{fails_at_once}
 use Rattle.rebuilding.proofs.Marked.{fails_by, went_by}
 use Rattle.rebuilding.proofs.rebuild.rebuild_object.Goals as goal
 
-pub returns-in_err-s : goal.returns-in_err-s
-returns-in_err-s g c =
+pub returns-in_err-start : goal.returns-in_err-start
+returns-in_err-start g c =
     let p = err_from_is_err_and c.from_residual.result c.from_residual.ensures.1 in
     record {
       outcome = λ u slot leads larger fits.
@@ -18,10 +18,10 @@ returns-in_err-s g c =
           (fails_at_once (meant g.S.Reading.segments g.S.Source.offers g.S.Source.first)
           (state_of (meant g.S.Reading.segments g.S.Source.offers g.S.Source.first) c.args.arena.now)
           (state_of (meant g.S.Reading.segments g.S.Source.offers g.S.Source.first) c.place_shape.new.arena)
-          c.args.g c.args.w (shape_meant c.args.held.shape) (shape_meant c.args.larger) u
+          c.args.slot.segment c.args.slot.word (shape_meant c.args.old.shape) (shape_meant c.args.larger) u
           (size (shape_meant c.args.larger) + 1)
-          c.in_err-s.field-0.0.minimum
-          slot leads.live leads.shaped (c.in_err-s.ensures.outcome fits slot.inside));
+          c.in_err-start.field-0.0.minimum
+          slot leads.live leads.shaped (c.in_err-start.ensures.outcome fits slot.inside));
     }
 
 pub returns-in_err-move_children : goal.returns-in_err-move_children
@@ -30,14 +30,14 @@ returns-in_err-move_children g c =
     let o = c.open_larger.ensures in
     record {
       outcome = λ u slot leads larger fits.
-          let k = c.in_ok-s.ensures in
+          let k = c.in_ok-start.ensures in
           rw (p.1, p.2)
           (fails_by (meant g.S.Reading.segments g.S.Source.offers g.S.Source.first)
           (state_of (meant g.S.Reading.segments g.S.Source.offers g.S.Source.first) c.args.arena.now)
           (state_of (meant g.S.Reading.segments g.S.Source.offers g.S.Source.first) c.place_shape.new.arena)
           (state_of (meant g.S.Reading.segments g.S.Source.offers g.S.Source.first) c.open_larger.new.arena)
-          c.args.arena.now.table c.args.g c.args.w c.in_ok-s.s c.in_ok-s.t
-          (landing_of c.args.held.landing) (shape_meant c.args.held.shape) (shape_meant c.args.larger) u
+          c.args.arena.now.table c.args.slot.segment c.args.slot.word c.in_ok-start.start.segment c.in_ok-start.start.word
+          (landing_of c.args.old.landing) (shape_meant c.args.old.shape) (shape_meant c.args.larger) u
           refl slot leads.live leads.lands leads.shaped larger fits (k.outcome fits slot.inside) (k.roomy fits slot.inside) o.rewritten o.words
           (state_of (meant g.S.Reading.segments g.S.Source.offers g.S.Source.first) c.move_children.new.arena)
           c.in_err-move_children.field-0.0.minimum
@@ -49,13 +49,13 @@ returns g c =
     let o = c.open_larger.ensures in
     record {
       outcome = λ u slot leads larger fits.
-          let k = c.in_ok-s.ensures in
+          let k = c.in_ok-start.ensures in
           went_by (meant g.S.Reading.segments g.S.Source.offers g.S.Source.first)
           (state_of (meant g.S.Reading.segments g.S.Source.offers g.S.Source.first) c.args.arena.now)
           (state_of (meant g.S.Reading.segments g.S.Source.offers g.S.Source.first) c.place_shape.new.arena)
           (state_of (meant g.S.Reading.segments g.S.Source.offers g.S.Source.first) c.open_larger.new.arena)
-          c.args.arena.now.table c.args.g c.args.w c.in_ok-s.s c.in_ok-s.t
-          (landing_of c.args.held.landing) (shape_meant c.args.held.shape) (shape_meant c.args.larger) u
+          c.args.arena.now.table c.args.slot.segment c.args.slot.word c.in_ok-start.start.segment c.in_ok-start.start.word
+          (landing_of c.args.old.landing) (shape_meant c.args.old.shape) (shape_meant c.args.larger) u
           refl slot leads.live leads.lands leads.shaped larger fits (k.outcome fits slot.inside) (k.roomy fits slot.inside) o.rewritten o.words
           (state_of (meant g.S.Reading.segments g.S.Source.offers g.S.Source.first) c.move_children.new.arena)
           (state_of (meant g.S.Reading.segments g.S.Source.offers g.S.Source.first) c.close_old.new.arena)

@@ -15,7 +15,7 @@ use Rattle.widen.proofs.children.move_children.Goals as goal
 pub loop-i-init : goal.loop-i-init
 loop-i-init g c = λ mark h.
     reached_none (meant g.S.Reading.segments g.S.Source.offers g.S.Source.first) mark
-    (row_moves (landing_of c.args.old) (shape_meant c.args.shape) c.args.s c.args.t (shape_meant c.args.larger))
+    (row_moves (landing_of c.args.old.landing) (shape_meant c.args.old.shape) c.args.new.start.segment c.args.new.start.word (shape_meant c.args.new.shape))
     (state_of (meant g.S.Reading.segments g.S.Source.offers g.S.Source.first) c.args.arena.now)
     h.prepared
 
@@ -25,25 +25,25 @@ returns-in_err-move_row g c =
     record {
       outcome = λ mark h.
           let k = c.loop-i.invariant mark h in
-          let i : c.loop-i.i < rows (shape_meant c.args.shape) = let a = c.loop-i-test.true in let b = c.rows-i-end.ensures.value in omega arith in
+          let i : c.loop-i.i < rows (shape_meant c.args.old.shape) = let a = c.loop-i-test.true in let b = c.rows-i-end.ensures.value in omega arith in
           let n =
           next_row {A = Unit {0}} (meant g.S.Reading.segments g.S.Source.offers g.S.Source.first) mark _ _
           (state_of (meant g.S.Reading.segments g.S.Source.offers g.S.Source.first) c.move_row.new.arena)
-          (landing_of c.args.old) (shape_meant c.args.shape) c.args.s c.args.t (shape_meant c.args.larger) c.loop-i.i
+          (landing_of c.args.old.landing) (shape_meant c.args.old.shape) c.args.new.start.segment c.args.new.start.word (shape_meant c.args.new.shape) c.loop-i.i
           h k
           (Err c.in_err-move_row.field-0.0)
           (λ q. c.in_err-move_row.ensures.outcome mark q i) in
-          rw (p.1, p.2) (reached_fails _ mark _ _ c.loop-i.i (rows (shape_meant c.args.shape)) _ _ _ i k n);
+          rw (p.1, p.2) (reached_fails _ mark _ _ c.loop-i.i (rows (shape_meant c.args.old.shape)) _ _ _ i k n);
     }
 
 pub loop-i-preserved : goal.loop-i-preserved
 loop-i-preserved g c = λ mark h.
     let k = c.loop-i.invariant mark h in
-    let i : c.loop-i.i < rows (shape_meant c.args.shape) = let a = c.loop-i-test.true in let b = c.rows-i-end.ensures.value in omega arith in
+    let i : c.loop-i.i < rows (shape_meant c.args.old.shape) = let a = c.loop-i-test.true in let b = c.rows-i-end.ensures.value in omega arith in
     reached_more (meant g.S.Reading.segments g.S.Source.offers g.S.Source.first) mark _ _ c.loop-i.i _ _ k
     (next_row {A = Unit {0}} {E = g.row.S-Fault.Denot} (meant g.S.Reading.segments g.S.Source.offers g.S.Source.first) mark _ _
     (state_of (meant g.S.Reading.segments g.S.Source.offers g.S.Source.first) c.move_row.new.arena)
-    (landing_of c.args.old) (shape_meant c.args.shape) c.args.s c.args.t (shape_meant c.args.larger) c.loop-i.i
+    (landing_of c.args.old.landing) (shape_meant c.args.old.shape) c.args.new.start.segment c.args.new.start.word (shape_meant c.args.new.shape) c.loop-i.i
     h k
     (Ok (tt {0}))
     (λ q. c.in_ok-move_row.ensures.outcome mark q i))
@@ -52,12 +52,12 @@ pub returns : goal.returns
 returns g c = record {
   outcome = λ mark h.
       let k = c.loop-i.invariant mark h in
-      let i : c.loop-i.i ≡ rows (shape_meant c.args.shape) =
+      let i : c.loop-i.i ≡ rows (shape_meant c.args.old.shape) =
       let a = c.loop-i-test.false in let b = c.rows-i-end.ensures.value in let d = c.loop-i.auto.i-end in omega arith in (
         subst
             (λ (n : ℕ).
             Went (meant g.S.Reading.segments g.S.Source.offers g.S.Source.first)
-            (λ r. each n (row_moves (landing_of c.args.old) (shape_meant c.args.shape) c.args.s c.args.t (shape_meant c.args.larger)) r (memory (state_of (meant g.S.Reading.segments g.S.Source.offers g.S.Source.first) c.args.arena.now)))
+            (λ r. each n (row_moves (landing_of c.args.old.landing) (shape_meant c.args.old.shape) c.args.new.start.segment c.args.new.start.word (shape_meant c.args.new.shape)) r (memory (state_of (meant g.S.Reading.segments g.S.Source.offers g.S.Source.first) c.args.arena.now)))
             (state_of (meant g.S.Reading.segments g.S.Source.offers g.S.Source.first) c.args.arena.now)
             (memory (state_of (meant g.S.Reading.segments g.S.Source.offers g.S.Source.first) c.loop-i.arena))
             (state_of (meant g.S.Reading.segments g.S.Source.offers g.S.Source.first) c.loop-i.arena))

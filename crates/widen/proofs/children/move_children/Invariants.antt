@@ -10,7 +10,7 @@ use Rattle.widen.proofs.children.move_children.Given as goal
 abbrev pub invariant-loop-i : goal.invariant-loop-i
 invariant-loop-i g l =
     (mark : State) →
-    Carries mark (state_of (meant g.S.Reading.segments g.S.Source.offers g.S.Source.first) l.initial.arena) (landing_of l.old) (shape_meant l.shape) l.s l.t (shape_meant l.larger) →
-    Reached (meant g.S.Reading.segments g.S.Source.offers g.S.Source.first) mark (row_moves (landing_of l.old) (shape_meant l.shape) l.s l.t (shape_meant l.larger)) l.i
+    Carries mark (state_of (meant g.S.Reading.segments g.S.Source.offers g.S.Source.first) l.initial.arena) (landing_of l.old.landing) (shape_meant l.old.shape) l.new.start.segment l.new.start.word (shape_meant l.new.shape) →
+    Reached (meant g.S.Reading.segments g.S.Source.offers g.S.Source.first) mark (row_moves (landing_of l.old.landing) (shape_meant l.old.shape) l.new.start.segment l.new.start.word (shape_meant l.new.shape)) l.i
     (state_of (meant g.S.Reading.segments g.S.Source.offers g.S.Source.first) l.initial.arena)
     (state_of (meant g.S.Reading.segments g.S.Source.offers g.S.Source.first) l.arena)

@@ -12,8 +12,8 @@ invariant-loop-i g l =
     Rewritten (state_of (meant g.S.Reading.segments g.S.Source.offers g.S.Source.first) l.initial.arena)
     (state_of (meant g.S.Reading.segments g.S.Source.offers g.S.Source.first) l.arena) ×
     ((mark : State) →
-    Copies mark (state_of (meant g.S.Reading.segments g.S.Source.offers g.S.Source.first) l.initial.arena) (landing_of l.old) (shape_meant l.shape) l.s l.t (shape_meant l.larger) →
+    Copies mark (state_of (meant g.S.Reading.segments g.S.Source.offers g.S.Source.first) l.initial.arena) (landing_of l.old.landing) (shape_meant l.old.shape) l.new.start.segment l.new.start.word (shape_meant l.new.shape) →
     Put mark
-    (loop l.i (row_copied (memory mark) (landing_of l.old) (shape_meant l.shape) l.s l.t (shape_meant l.larger))
+    (loop l.i (row_copied (memory mark) (landing_of l.old.landing) (shape_meant l.old.shape) l.new.start.segment l.new.start.word (shape_meant l.new.shape))
     (memory (state_of (meant g.S.Reading.segments g.S.Source.offers g.S.Source.first) l.initial.arena)))
     (state_of (meant g.S.Reading.segments g.S.Source.offers g.S.Source.first) l.arena))

@@ -14,9 +14,9 @@ invariant-loop-k g l =
     Rewritten (state_of (meant g.S.Reading.segments g.S.Source.offers g.S.Source.first) l.initial.arena)
     (state_of (meant g.S.Reading.segments g.S.Source.offers g.S.Source.first) l.arena) ×
     ((mark : State) →
-    Copies mark (state_of (meant g.S.Reading.segments g.S.Source.offers g.S.Source.first) l.initial.arena) (landing_of l.old) (shape_meant l.shape) l.s l.t (shape_meant l.larger) →
-    l.i < rows (shape_meant l.shape) →
+    Copies mark (state_of (meant g.S.Reading.segments g.S.Source.offers g.S.Source.first) l.initial.arena) (landing_of l.old.landing) (shape_meant l.old.shape) l.new.start.segment l.new.start.word (shape_meant l.new.shape) →
+    l.i < rows (shape_meant l.old.shape) →
     Put mark
-    (loop l.k (number_copied (memory mark) (landing_of l.old) (shape_meant l.shape) l.s l.t (shape_meant l.larger) l.i)
+    (loop l.k (number_copied (memory mark) (landing_of l.old.landing) (shape_meant l.old.shape) l.new.start.segment l.new.start.word (shape_meant l.new.shape) l.i)
     (memory (state_of (meant g.S.Reading.segments g.S.Source.offers g.S.Source.first) l.initial.arena)))
     (state_of (meant g.S.Reading.segments g.S.Source.offers g.S.Source.first) l.arena))

@@ -20,16 +20,16 @@ returns-then-is_far g c = record {
       (record { rewritten = c.write_word.ensures.rewritten; words = c.write_word.ensures.words m.sized m.to });
 }
 
-pub returns-then-s-g : goal.returns-then-s-g
-returns-then-s-g g c = record {
+pub returns-then-to-from : goal.returns-then-to-from
+returns-then-to-from g c = record {
   outcome = λ m.
       move_near _ _ _ _ _ _ _ c.pointer_at-pointer.ensures.value _ (sym c.is_null.ensures.value ∙ c.if-is_null.false)
       (sym c.is_far.ensures.value ∙ c.if-is_far.false)
-      c.if-s-g.true
+      c.if-to-from.true
       (record {
-        rewritten = c.write_word-then-s-g.ensures.rewritten;
-        words = c.write_word-then-s-g.ensures.words m.sized m.to ∙
-            ap (change (memory (state_of (meant g.S.Reading.segments g.S.Source.offers g.S.Source.first) c.args.arena.now)) c.args.s c.args.q) c.near_pointer.ensures.value;
+        rewritten = c.write_word-then-to-from.ensures.rewritten;
+        words = c.write_word-then-to-from.ensures.words m.sized m.to ∙
+            ap (change (memory (state_of (meant g.S.Reading.segments g.S.Source.offers g.S.Source.first) c.args.arena.now)) c.args.to.segment c.args.to.word) c.near_pointer.ensures.value;
       });
 }
 
@@ -39,6 +39,6 @@ returns g c = record {
       let n = sym c.is_null.ensures.value ∙ c.if-is_null.false in
       let f = sym c.is_far.ensures.value ∙ c.if-is_far.false in
       let here = c.pointer_at-pointer.ensures.value in
-      move_over _ _ _ _ _ _ _ here c.bridge.result _ n f c.if-s-g.false
+      move_over _ _ _ _ _ _ _ here c.bridge.result _ n f c.if-to-from.false
       (c.bridge.ensures.outcome m (aimed_here (meant g.S.Reading.segments g.S.Source.offers g.S.Source.first) _ _ _ _ _ _ here m n f));
 }
