@@ -10,11 +10,16 @@ use Rattle.path.specs.declared.step.Step.{Step}
 use Rattle.walk.specs.Slots.{steps_of}
 use Rattle.deciding.specs.declared.edit.Edit.{Edit}
 use Rattle.deciding.specs.Edits.{edit_of}
-use Rattle.effects.specs.States.{state_of}
+use Rattle.segments.specs.Meaning.{Meaning}
+use Rattle.effects.specs.States.{state_of, source_of}
 use Rattle.message.specs.declared.draft.Draft.{Draft}
 
 abbrev pub draft_state : {X : Type 0} → Source X → Draft X → State
 draft_state S d = state_of S d.arena
+
+-- the same by what a type of sources means: of S it is `S.Source`
+abbrev pub drafted : {X F : Type 0} → Meaning X F → Draft X → State
+drafted M = draft_state (source_of M)
 
 abbrev pub call_of : List Step → Edit → (bytes : List ℕ) → Call
 call_of ss e bs = record { path = steps_of ss; edit = edit_of e bs }

@@ -2,7 +2,6 @@
 #![tactic(auto)]
 
 pub mod draft;
-mod editing;
 pub mod reading;
 pub mod refusal;
 pub mod writing;

@@ -5,9 +5,10 @@ ghost use Rattle.message.specs.Refusals.{ruled, no_space};
 use arena::NoSpace;
 use judging::ruling::Ruling;
 use walk::shape::Shape;
+use walk::spot::Spot;
 
 // A refused call: a ruling on its arguments and its place, or no space for new words.
-#[derive(Clone, Copy)]
+#[derive(Clone, Copy, Debug, PartialEq, Eq)]
 pub enum Refused<F> {
     Ruled(Ruling),
     Crowded(NoSpace<F>),
@@ -29,10 +30,9 @@ impl<F> From<NoSpace<F>> for Refused<F> {
     }
 }
 
-// The object of a place: its sizes, none for a null place, and the segment and word to which the place's pointer leads.
-#[derive(Clone, Copy)]
+// The object of a place that is not null: its sizes, and where the place's pointer leads.
+#[derive(Clone, Copy, Debug, PartialEq, Eq)]
 pub struct Placed {
-    pub shape: Option<Shape>,
-    pub segment: usize,
-    pub word: usize,
+    pub shape: Shape,
+    pub start: Spot,
 }

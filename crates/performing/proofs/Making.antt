@@ -9,8 +9,9 @@ use Rattle.law.specs.Law.{Source, State, memory}
 use Rattle.effects.specs.States.{Rewritten}
 use Rattle.effects.specs.Parts.{Went}
 use Rattle.effects.proofs.Joins.{rewrites, went_as}
-use Rattle.judging.specs.declared.site.Held.{Held}
-use Rattle.judging.specs.Sites.{Leads}
+use Rattle.walk.specs.declared.held.Held.{Held}
+use Rattle.walk.specs.Holding.{Leads}
+use Rattle.walk.specs.Spots.{spot_of}
 use Rattle.making.specs.Numbers.{Numbers}
 use Rattle.effects.proofs.Allocations.{rests}
 
@@ -34,9 +35,9 @@ module _ {X : Type 0} (S : Source X) (s : State) (g w : ℕ) (u : Value) where
 
 -- a number is written
 pub number_makes : {X : Type 0} (S : Source X) (s s' : State) (g w : ℕ) (u : Value) (m : Making) (held : Held) → Rewritten s s' → Numbers (memory s) g w u m (memory s') →
-    Leads (memory s) g w held → Went S (makes (memory s) g w u m) s (made (memory s') (held.landing.segment, held.landing.start)) s'
+    Leads (memory s) g w held → Went S (makes (memory s) g w u m) s (made (memory s') (spot_of held.landing.start)) s'
 number_makes S s s' g w u m held r n leads =
-    let p : ℕ × ℕ = (held.landing.segment, held.landing.start) in
+    let p : ℕ × ℕ = (spot_of held.landing.start) in
     let e : ((land (memory s) g w).seg, (land (memory s) g w).pos) ≡ p = sym (ap (λ (z : Landing). (z.seg, z.pos)) leads.lands) in
     went_as S (λ k. got k (made (memory s') p)) (makes (memory s) g w u m) s s' (made (memory s') p)
     (λ k. n k ∙ ap (λ (q : ℕ × ℕ). got k (made (memory s') q)) e)

@@ -3,5 +3,5 @@
 #![tactic(auto)]
 
 pub mod make;
-pub mod number;
 pub mod perform;
+mod whole;

@@ -3,7 +3,7 @@ ghost use Rattle.std.specs.Prelude.{◌≡◌};
 ghost use Rattle.tree.specs.Value.{Value};
 ghost use Rattle.law.specs.Law.{memory};
 ghost use Rattle.deciding.specs.Edits.{making_of};
-ghost use Rattle.effects.specs.States.{meant, state_of};
+ghost use Rattle.effects.specs.States.{source_of, state};
 ghost use Rattle.effects.specs.Makes.{Slot, Makes};
 ghost use Rattle.performing.specs.Able.{Able};
 
@@ -14,28 +14,28 @@ use making::init::{init_object, init_text};
 use rebuilding::rebuild::rebuild_object;
 use segments::source::Source;
 use walk::landing::follow;
+use walk::spot::Spot;
 
-// Makes it of the slot in word `w` of segment `g`, and answers where the object of the slot lies then.
+// Makes it of the slot, and answers where the object of the slot lies then.
 pub fn make<S: Source>(
     arena: &mut BuilderArena<S>,
-    g: usize,
-    w: usize,
+    slot: Spot,
     making: Making,
     bytes: &[u8],
-) -> Result<(usize, usize), NoSpace<S::Fault>>
-    ensures outcome { (u : Value) → Slot (state_of (meant S.Reading.segments S.Source.offers S.Source.first) arena.old) g w u → Able (memory (state_of (meant S.Reading.segments S.Source.offers S.Source.first) arena.old)) g w u making bytes.now → Makes (meant S.Reading.segments S.Source.offers S.Source.first) (state_of (meant S.Reading.segments S.Source.offers S.Source.first) arena.old) g w u (making_of making bytes.now) result (state_of (meant S.Reading.segments S.Source.offers S.Source.first) arena.new) }
+) -> Result<Spot, NoSpace<S::Fault>>
+    ensures outcome { (u : Value) → Slot (state S.Source arena.old) slot.segment slot.word u → Able (memory (state S.Source arena.old)) slot.segment slot.word u making bytes.now → Makes (source_of S.Source) (state S.Source arena.old) slot.segment slot.word u (making_of making bytes.now) result (state S.Source arena.new) }
 {
     match making {
-        Making::Keep => {
-            let landing = follow(&arena.source, g, w);
-            Ok((landing.segment, landing.start))
-        }
+        Making::Keep => Ok(follow(&arena.source, slot).start),
         Making::Wipe => {
-            clear_slot(arena, g, w);
-            Ok((0, 0))
+            clear_slot(arena, slot);
+            Ok(Spot {
+                segment: 0,
+                word: 0,
+            })
         }
-        Making::New(shape) => init_object(arena, g, w, shape),
-        Making::Spell => init_text(arena, g, w, bytes),
-        Making::Rebuild(held, shape) => rebuild_object(arena, g, w, held, shape),
+        Making::New(shape) => init_object(arena, slot, shape),
+        Making::Spell => init_text(arena, slot, bytes),
+        Making::Rebuild(held, shape) => rebuild_object(arena, slot, held, shape),
     }
 }

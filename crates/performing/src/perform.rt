@@ -1,48 +1,47 @@
-// A whole call, or none of it.
+// A whole call: an edit, or the write of a number.
 ghost use Rattle.std.specs.Prelude.{◌≡◌, ℕ};
 ghost use Rattle.tree.specs.Value.{Value};
 ghost use Rattle.law.specs.Calls.{Call};
 ghost use Rattle.law.specs.Law.{memory, Holds};
-ghost use Rattle.effects.specs.States.{meant, state_of};
+ghost use Rattle.judging.specs.Rulings.{home_of};
+ghost use Rattle.effects.specs.States.{source_of, state};
 ghost use Rattle.effects.specs.Makes.{Performs};
-ghost use Rattle.performing.specs.Able.{Ready, Prepares};
+ghost use Rattle.performing.specs.Able.{Ready, ReadyNumber};
 
 use super::make::make;
+use super::whole::whole;
 use arena::{BuilderArena, NoSpace};
-use deciding::edit::Making;
-use effects::mark::go_back;
-use effects::root::ensure_root;
-use judging::site::Site;
+use deciding::decision::Decision;
+use elements::kinds::PrimitiveElement;
+use making::set::set_number;
+use number::home::NumberAt;
 use segments::source::Source;
+use walk::held::Held;
+use walk::spot::Spot;
 
-// The root word, then the edit.
-fn root_and_make<S: Source>(
-    arena: &mut BuilderArena<S>,
-    site: Site,
-    making: Making,
-    bytes: &[u8],
-) -> Result<(usize, usize), NoSpace<S::Fault>>
-    ensures outcome { (v : Value) (c : Call) → Holds (meant S.Reading.segments S.Source.offers S.Source.first) (state_of (meant S.Reading.segments S.Source.offers S.Source.first) arena.old) v → Ready (memory (state_of (meant S.Reading.segments S.Source.offers S.Source.first) arena.old)) v c site making bytes.now → Prepares (meant S.Reading.segments S.Source.offers S.Source.first) (state_of (meant S.Reading.segments S.Source.offers S.Source.first) arena.old) v c result (state_of (meant S.Reading.segments S.Source.offers S.Source.first) arena.new) }
-{
-    ensure_root(arena)?;
-    make(arena, site.segment, site.word, making, bytes)
-}
-
-// Makes it at the site. Where there is no space, words and counts are as they were, and segments granted on the way stay, empty.
+// Makes at the site what was decided.
 pub fn perform<S: Source>(
     arena: &mut BuilderArena<S>,
-    site: Site,
-    making: Making,
+    decision: Decision,
     bytes: &[u8],
-) -> Result<(usize, usize), NoSpace<S::Fault>>
-    ensures outcome { (v : Value) (c : Call) → Holds (meant S.Reading.segments S.Source.offers S.Source.first) (state_of (meant S.Reading.segments S.Source.offers S.Source.first) arena.old) v → Ready (memory (state_of (meant S.Reading.segments S.Source.offers S.Source.first) arena.old)) v c site making bytes.now → Performs (meant S.Reading.segments S.Source.offers S.Source.first) (state_of (meant S.Reading.segments S.Source.offers S.Source.first) arena.old) v c result (state_of (meant S.Reading.segments S.Source.offers S.Source.first) arena.new) }
+) -> Result<Spot, NoSpace<S::Fault>>
+    ensures outcome { (v : Value) (c : Call) → Holds (source_of S.Source) (state S.Source arena.old) v → Ready (memory (state S.Source arena.old)) v c decision.site decision.making bytes.now → Performs (source_of S.Source) (state S.Source arena.old) v c result (state S.Source arena.new) }
 {
-    let mark = arena.table;
-    match root_and_make(arena, site, making, bytes) {
-        Ok(p) => Ok(p),
-        Err(e) => {
-            go_back(arena, &mark);
-            Err(e)
-        }
-    }
+    let Decision { site, making, .. } = decision;
+    whole(arena, |arena| make(arena, site.slot, making, bytes))
+}
+
+// Puts the number into the object.
+pub fn perform_number<S: Source, E: PrimitiveElement + Drop>(
+    arena: &mut BuilderArena<S>,
+    held: Held,
+    at: NumberAt,
+    x: E,
+) -> Result<Spot, NoSpace<S::Fault>>
+    ensures outcome { (v : Value) (c : Call) → Holds (source_of S.Source) (state S.Source arena.old) v → ReadyNumber (memory (state S.Source arena.old)) v c held (home_of at.home) E.PrimitiveElement.code at.index (E.PrimitiveElement.bits x) → Performs (source_of S.Source) (state S.Source arena.old) v c result (state S.Source arena.new) }
+{
+    whole(arena, |arena| {
+        set_number(arena, held, at, x);
+        Ok(held.landing.start)
+    })
 }

@@ -1,5 +1,7 @@
 -- What follows of a run from a new draft, and of two runs of one list.
-use Rattle.std.proofs.Common.{◌≡◌, List, [], ◌∷◌, map, sym, refl, ap, ◌∙◌, subst, ap₂}
+use Rattle.std.proofs.Common.{◌≡◌, true, List, [], ◌∷◌, map, Ok, Err, Result, sym, refl, ap, ◌∙◌, subst, ap₂}
+use Rattle.std.specs.Result.{is_ok, OnOk, OnErr}
+use Rattle.std.proofs.lemmas.Bool.{true≢false}
 use Rattle.tree.specs.Value.{Value, null}
 use Rattle.law.specs.Law.{Source, State, Reply, told, Holds, Begun}
 use Rattle.law.specs.Runs.{Event, Fed, feed, tree, calls, answers, replies, Untold}
@@ -8,6 +10,15 @@ use Rattle.law.proofs.Runs.{fed_alike}
 use Rattle.sessions.specs.Sessions.{Deed, whole_machine, sessions}
 use Rattle.sessions.proofs.Sessions.{session_holds, session_answers}
 use Rattle.replaying.specs.Replays.{Replayed, fed, Built, Uncrowded, Agreed}
+
+-- of a success
+pub ok_run : {P T E : Type 0} (r : Result T E) → is_ok r ≡ true → OnOk r P → P
+ok_run (Ok x) e h = h
+ok_run (Err y) e h = absurd (true≢false (sym e))
+
+pub no_err : {T E : Type 0} (P : Type 0) (r : Result T E) → is_ok r ≡ true → OnErr r P
+no_err P (Ok x) e = tt
+no_err P (Err y) e = absurd (true≢false (sym e))
 
 module _ {X : Type 0} (S : Source X) where
   feed_is : (es : List (Event (sessions S))) → feed (sessions S) es ≡ fed (calls (sessions S) es) (map (λ e. e.reply) es)

@@ -1,6 +1,6 @@
 -- Runs that go on: one call more at the end.
-use Rattle.std.proofs.Common.{◌≡◌, ℕ, ◌+◌, ◌<◌, List, [], ◌∷◌, ◌++◌, length, get_or, take, set, sym, refl, ap, ◌∙◌, subst, arith}
-use Rattle.std.proofs.lemmas.List.{take_all, take_more, take_more_set, map_push}
+use Rattle.std.proofs.Common.{◌≡◌, ℕ, ◌+◌, ◌<◌, List, [], ◌∷◌, ◌++◌, length, get_or, take, set, Result, sym, refl, ap, ◌∙◌, subst, arith}
+use Rattle.std.proofs.lemmas.List.{take_all, take_more_set, map_more, map_push}
 use Rattle.tree.specs.Value.{Value}
 use Rattle.law.specs.Law.{Source, State, Holds}
 use Rattle.law.specs.Law as law
@@ -8,7 +8,8 @@ use Rattle.law.specs.Runs.{Machine, Play, Event, Run, last, feed, tree, calls}
 use Rattle.sessions.specs.Sessions.{Deed, ByLaw, whole_machine, sessions}
 use Rattle.sessions.proofs.Sessions.{session_holds}
 use Rattle.replaying.specs.declared.calls.Call.{Call}
-use Rattle.replaying.specs.declared.calls.Reply.{Reply}
+use Rattle.replaying.specs.declared.reply.Answer.{Answer}
+use Rattle.replaying.specs.declared.reply.Refusal.{Refusal}
 use Rattle.replaying.specs.Calls.{deed_of, deeds_of, reply_of, replies_of}
 use Rattle.replaying.specs.Replays.{Plays, Replayed}
 
@@ -48,26 +49,19 @@ module _ {X : Type 0} (S : Source X) (s : State) (v : Value) where
 
 -- ## Lists of calls and replies
 
-deeds_push : (cs : List Call) (c : Call) → deeds_of (cs ++ (c ∷ [])) ≡ deeds_of cs ++ (deed_of c ∷ [])
-deeds_push [] c = refl
-deeds_push (a ∷ cs) c = ap (λ (l : List Deed). deed_of a ∷ l) (deeds_push cs c)
-
-replies_push : (ys : List Reply) (y : Reply) → replies_of (ys ++ (y ∷ [])) ≡ replies_of ys ++ (reply_of y ∷ [])
-replies_push [] y = refl
-replies_push (a ∷ ys) y = ap (λ (l : List law.Reply). reply_of a ∷ l) (replies_push ys y)
-
-pub replay_step : {X : Type 0} (S : Source X) (s s₁ s₂ : State) (v : Value) (cs : List Call) (ys : List Reply) (i : ℕ) (c : Call) (y : Reply) → Holds S s v → i < length cs → i < length ys →
-    c ≡ get_or cs i c → Replayed S s v (deeds_of (take i cs)) (replies_of (take i ys)) s₁ → Plays S s₁ (deed_of c) (reply_of y) s₂ →
+pub replay_step : {X : Type 0} (S : Source X) (s s₁ s₂ : State) (v : Value) (cs : List Call) (ys : List (Result Answer Refusal)) (i : ℕ) (c : Call) (y : Result Answer Refusal) →
+    Holds S s v → i < length cs → i < length ys → c ≡ get_or cs i c →
+    Replayed S s v (deeds_of (take i cs)) (replies_of (take i ys)) s₁ → Plays S s₁ (deed_of c) (reply_of y) s₂ →
     Replayed S s v (deeds_of (take (i + 1) cs)) (replies_of (take (i + 1) (set ys i y))) s₂
 replay_step S s s₁ s₂ v cs ys i c y h hc hy is r p =
     let e : deeds_of (take (i + 1) cs) ≡ deeds_of (take i cs) ++ (deed_of c ∷ []) =
-    ap deeds_of (take_more cs i c hc) ∙ (deeds_push (take i cs) (get_or cs i c) ∙ ap (λ (k : Call). deeds_of (take i cs) ++ (deed_of k ∷ [])) (sym is)) in
-    let f : replies_of (take (i + 1) (set ys i y)) ≡ replies_of (take i ys) ++ (reply_of y ∷ []) = ap replies_of (take_more_set ys i y hy) ∙ replies_push (take i ys) y in
+    map_more deed_of cs i c hc ∙ ap (λ (k : Call). deeds_of (take i cs) ++ (deed_of k ∷ [])) (sym is) in
+    let f : replies_of (take (i + 1) (set ys i y)) ≡ replies_of (take i ys) ++ (reply_of y ∷ []) = ap replies_of (take_more_set ys i y hy) ∙ map_push reply_of (take i ys) y in
     subst (λ (l : List Deed). Replayed S s v l (replies_of (take (i + 1) (set ys i y))) s₂) (sym e)
     (subst (λ (l : List law.Reply). Replayed S s v (deeds_of (take i cs) ++ (deed_of c ∷ [])) l s₂) (sym f) (replayed_more S s v _ _ s₁ s₂ _ _ h r p))
 
 -- all of them
-pub replay_whole : {X : Type 0} (S : Source X) (s s₁ : State) (v : Value) (cs : List Call) (ys : List Reply) (i : ℕ) → i ≡ length cs →
+pub replay_whole : {X : Type 0} (S : Source X) (s s₁ : State) (v : Value) (cs : List Call) (ys : List (Result Answer Refusal)) (i : ℕ) → i ≡ length cs →
     Replayed S s v (deeds_of (take i cs)) (replies_of (take i ys)) s₁ → Replayed S s v (deeds_of cs) (replies_of (take (length cs) ys)) s₁
 replay_whole S s s₁ v cs ys i e r =
     let f : take i cs ≡ cs = ap (λ (k : ℕ). take k cs) e ∙ take_all (length cs) cs (omega arith) in

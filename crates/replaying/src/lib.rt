@@ -6,3 +6,4 @@ pub mod calls;
 pub mod numbers;
 pub mod play;
 pub mod replay;
+pub mod reply;

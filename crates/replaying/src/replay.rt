@@ -1,30 +1,38 @@
 // A list of calls, one after another.
-ghost use Rattle.std.specs.Prelude.{◌≡◌, ℕ, Bool, true, false, length, take, drop, nat_le};
+ghost use Rattle.std.specs.Prelude.{◌≡◌, ℕ, length, take, drop, nat_le, is_ok, OnOk, OnErr};
 ghost use Rattle.tree.specs.Value.{Value};
 ghost use Rattle.law.specs.Law.{Holds};
-ghost use Rattle.effects.specs.States.{meant, state_of};
-ghost use Rattle.message.specs.Drafts.{draft_state};
+ghost use Rattle.effects.specs.States.{source_of};
+ghost use Rattle.message.specs.Drafts.{drafted};
 ghost use Rattle.replaying.specs.Calls.{deeds_of, replies_of};
 ghost use Rattle.replaying.specs.Replays.{Replayed};
 
-use super::calls::{Call, Reply};
+use super::calls::Call;
 use super::play::play;
+use super::reply::Reply;
 use message::draft::Draft;
 use segments::source::Source;
 
-// Makes the calls on the draft, and puts their answers into the first of the replies. Where these are too few nothing is done, and the
-// answer is false.
-pub fn replay<S: Source>(draft: &mut Draft<S>, calls: &[Call], replies: &mut [Reply]) -> bool
-    ensures enough { result ≡ nat_le (length calls.now) (length replies.old) }
-    ensures nothing { result ≡ false → (draft_state (meant S.Reading.segments S.Source.offers S.Source.first) draft.new ≡ draft_state (meant S.Reading.segments S.Source.offers S.Source.first) draft.old) × (replies.new ≡ replies.old) }
-    ensures run { result ≡ true → (v : Value) → Holds (meant S.Reading.segments S.Source.offers S.Source.first) (draft_state (meant S.Reading.segments S.Source.offers S.Source.first) draft.old) v → Replayed (meant S.Reading.segments S.Source.offers S.Source.first) (draft_state (meant S.Reading.segments S.Source.offers S.Source.first) draft.old) v (deeds_of calls.now) (replies_of (take (length calls.now) replies.new)) (draft_state (meant S.Reading.segments S.Source.offers S.Source.first) draft.new) }
+// There are more calls than places for their answers.
+#[derive(Clone, Copy, Debug, PartialEq, Eq)]
+pub struct TooFew;
+
+// Makes the calls on the draft, and puts their answers into the first of the replies. Where these are too few nothing is done.
+pub fn replay<S: Source>(
+    draft: &mut Draft<S>,
+    calls: &[Call],
+    replies: &mut [Reply],
+) -> Result<(), TooFew>
+    ensures enough { is_ok result ≡ nat_le (length calls.now) (length replies.old) }
+    ensures nothing { OnErr result ((drafted S.Source draft.new ≡ drafted S.Source draft.old) × (replies.new ≡ replies.old)) }
+    ensures run { OnOk result ((v : Value) → Holds (source_of S.Source) (drafted S.Source draft.old) v → Replayed (source_of S.Source) (drafted S.Source draft.old) v (deeds_of calls.now) (replies_of (take (length calls.now) replies.new)) (drafted S.Source draft.new)) }
     ensures rest { drop (length calls.now) replies.new ≡ drop (length calls.now) replies.old }
 {
     if replies.len() < calls.len() {
-        return false;
+        return Err(TooFew);
     }
-    for i in 0..calls.len() {
-        replies[i] = play(draft, &calls[i]);
+    for (i, call) in calls.iter().enumerate() {
+        replies[i] = play(draft, call);
     }
-    true
+    Ok(())
 }

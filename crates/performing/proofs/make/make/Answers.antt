@@ -2,7 +2,6 @@
 use Rattle.std.proofs.Common.{refl, ap}
 use Rattle.walk.specs.Landings.{landing_of}
 use Rattle.deciding.specs.Edits.{making_of}
-use Rattle.effects.specs.States.{meant, state_of}
 use Rattle.performing.proofs.Making.{kept, wiped_away}
 use Rattle.performing.proofs.make.make.Goals as goal
 
@@ -10,13 +9,13 @@ pub returns-in-Keep : goal.returns-in-Keep
 returns-in-Keep g c =
     record {
       outcome = λ u slot able.
-          kept (meant g.S.Reading.segments g.S.Source.offers g.S.Source.first) (state_of (meant g.S.Reading.segments g.S.Source.offers g.S.Source.first) c.args.arena.now) c.args.g c.args.w u _ (landing_of c.follow-landing.result) (ap (λ m. making_of m c.args.bytes.now) c.in-Keep.is) c.follow-landing.ensures.value;
+          kept _ _ c.args.slot.segment c.args.slot.word u _ (landing_of c.follow.result) (ap (λ m. making_of m c.args.bytes.now) c.in-Keep.is) c.follow.ensures.value;
     }
 
 pub returns-in-Wipe : goal.returns-in-Wipe
 returns-in-Wipe g c =
     record {
       outcome = λ u slot able.
-          wiped_away _ _ c.args.g c.args.w u _ _ (ap (λ m. making_of m c.args.bytes.now) c.in-Wipe.is) c.clear_slot.ensures.rewritten
+          wiped_away _ _ c.args.slot.segment c.args.slot.word u _ _ (ap (λ m. making_of m c.args.bytes.now) c.in-Wipe.is) c.clear_slot.ensures.rewritten
           (c.clear_slot.ensures.words _ u refl slot slot.sized slot.inside);
     }

@@ -1,13 +1,16 @@
--- Where there is no space, all goes back.
-use Rattle.std.proofs.Common.{refl}
-use Rattle.effects.proofs.Calls.{performs_back, holds_clean}
+-- The edit at the slot of the call.
+use Rattle.std.proofs.Common.{rules}
+use Rattle.performing.proofs.Wholes.{slot_here, makes_at, able_there}
 use Rattle.performing.proofs.perform.perform.Goals as goal
 
-pub returns-in-Err : goal.returns-in-Err
-returns-in-Err g c =
+pub returns : goal.returns
+returns g c =
     record {
       outcome = λ v k holds ready.
-          let f = c.in-Err.ensures.outcome v k holds ready in
-          let b = c.go_back.ensures.back _ _ refl holds.stands.sizes_match (holds_clean _ _ v holds) f.1 f.0.capacities_are in
-          performs_back _ _ _ _ v k c.in-Err.e f.0 holds.stands.sizes_match f.1.sized b;
+          c.whole.ensures.outcome v k holds ready.judged
+          (λ a b r same slot post.
+          let site = c.args.decision.site in
+          let here = slot_here _ site.slot.segment site.slot.word _ _ ready.slot slot in
+          let able = able_there _ _ v k site c.args.decision.making c.args.bytes.now same ready here in
+          makes_at _ _ _ _ _ _ _ _ _ _ r ready.slot ready.making_is (search (rules, here, able, post)));
     }

@@ -3,7 +3,7 @@ use Rattle.std.proofs.Common.{◌∙◌}
 use Rattle.std.proofs.lemmas.Bool.{le-leb}
 use Rattle.law.proofs.Drafts.{begun_holds}
 use Rattle.tree.specs.Value.{null}
-use Rattle.replaying.proofs.Outcomes.{built}
+use Rattle.replaying.proofs.Outcomes.{ok_run, built}
 use Rattle.replaying.proofs.build.build.Goals as goal
 
 pub returns : goal.returns
@@ -12,5 +12,5 @@ returns g c =
       built = λ h.
           let r = c.replay.ensures in
           let b = c.begin-draft.ensures.begun in
-          built _ _ _ _ _ b (r.run (r.enough ∙ le-leb _ _ h) null (begun_holds _ _ b));
+          built _ _ _ _ _ b (ok_run _ (r.enough ∙ le-leb _ _ h) r.run null (begun_holds _ _ b));
     }

@@ -10,6 +10,9 @@ use Rattle.replaying.proofs.replay.replay.Given as goal
 
 abbrev pub invariant-loop-i : goal.invariant-loop-i
 invariant-loop-i g l =
-    ((v : Value) → Holds (meant g.S.Reading.segments g.S.Source.offers g.S.Source.first) (draft_state (meant g.S.Reading.segments g.S.Source.offers g.S.Source.first) l.initial.draft) v →
-    Replayed (meant g.S.Reading.segments g.S.Source.offers g.S.Source.first) (draft_state (meant g.S.Reading.segments g.S.Source.offers g.S.Source.first) l.initial.draft) v (deeds_of (take l.i l.calls)) (replies_of (take l.i l.replies)) (draft_state (meant g.S.Reading.segments g.S.Source.offers g.S.Source.first) l.draft)) ×
-    (drop (length l.calls) l.replies ≡ drop (length l.calls) l.initial.replies)
+    let S = meant g.S.Reading.segments g.S.Source.offers g.S.Source.first in
+    record {
+      run : (v : Value) → Holds S (draft_state S l.initial.draft) v →
+          Replayed S (draft_state S l.initial.draft) v (deeds_of (take l.i l.calls)) (replies_of (take l.i l.replies)) (draft_state S l.draft);
+      rest : drop (length l.calls) l.replies ≡ drop (length l.calls) l.initial.replies;
+    }
