@@ -1,66 +1,59 @@
 -- One event: the newest object was taken away, and is put back behind its next pointer if it has one.
-use Rattle.std.proofs.Common.{◌≡◌, ◌<◌, true, ltb, List, [], ◌∷◌, ◌++◌, length, ap, ◌∙◌, arith}
-use Rattle.std.proofs.lemmas.Bool.{ltb-true}
+use Rattle.std.proofs.Common.{◌≡◌, ◌<◌, ◌≤◌, Bool, true, false, cond, ltb, List, ◌∷◌, length, sym, ap, ◌∙◌, arith}
+use Rattle.std.proofs.lemmas.Bool.{cond-true, lt-ltb, ltb-true, ltb-false}
 use Rattle.tree.specs.Value.{rows}
 use Rattle.tree.specs.Shows.{Memory}
-use Rattle.walk.specs.Shapes.{shape_meant}
-use Rattle.cursor.specs.declared.Frame.{Frame}
-use Rattle.cursor.specs.Begun.{Begun, begun_of, passed}
+use Rattle.cursor.specs.Begun.{Begun, passed}
 use Rattle.cursor.specs.Weight.{left, weight}
-use Rattle.cursor.specs.Steps.{Entered, TooDeep, Begins}
-use Rattle.cursor.proofs.Stacks.{stacked, newest_last, stacked_length}
+use Rattle.cursor.specs.Steps.{pointed, Null, Entered, TooDeep, Left, Begins}
 use Rattle.cursor.proofs.Weights.{falls_left, falls_passed, falls_entered}
 
-module _ (fs os : List Frame) (f : Frame) (popped : fs ≡ os ++ f ∷ []) where
-  before : stacked fs ≡ begun_of f ∷ stacked os
-  before = newest_last fs os f popped
+module _ (bs os : List Begun) (b : Begun) (popped : bs ≡ b ∷ os) (t : Bool) (asked : t ≡ ltb b.row (rows b.shape)) where
+  pub ends : t ≡ false → Left b bs os × (weight os < weight bs)
+  ends e = (record { before = popped; done = ltb-false b.row (rows b.shape) (sym asked ∙ e) }, falls_left bs os b popped)
 
-  pub ends_lighter : weight (stacked os) < weight (stacked fs)
-  ends_lighter = falls_left (stacked fs) (stacked os) (begun_of f) before
+  module _ (H : Memory) (more : t ≡ true) (few : length bs ≤ 64) (p : Begun) (passes : p ≡ passed b) (less : left p < left b)
+      (r : Bool) (ps : List Begun) (room : r ≡ ltb (length os) 64) (pushed : ps ≡ cond r (p ∷ os) os) where
+    comes : b.row < rows b.shape
+    comes = ltb-true b.row (rows b.shape) (sym asked ∙ more)
 
-  module _ (ps : List Frame) (p : Frame) (pushed : ps ≡ os ++ p ∷ []) (less : left (begun_of p) < left (begun_of f)) where
-    back : stacked ps ≡ begun_of p ∷ stacked os
-    back = newest_last ps os p pushed
+    back : ps ≡ p ∷ os
+    back =
+        let l : length os < 64 = let k = ap length popped in omega arith in
+        pushed ∙ cond-true r (p ∷ os) os (room ∙ lt-ltb (length os) 64 l)
 
-    pub passes_lighter : weight (stacked ps) < weight (stacked fs)
-    passes_lighter = falls_passed (stacked fs) (stacked os) (begun_of f) before (stacked ps) (begun_of p) back less
+    as_many : length ps ≡ length bs
+    as_many = ap length back ∙ sym (ap length popped)
 
-    module _ (H : Memory) (passes : begun_of p ≡ passed (begun_of f)) (more : ltb f.row (rows (shape_meant f.held.shape)) ≡ true) (new : Frame) (begins : Begins H (begun_of f) (begun_of new)) where
-      after : stacked ps ≡ passed (begun_of f) ∷ stacked os
-      after = back ∙ ap (λ (b : Begun). b ∷ stacked os) passes
+    after_is : ps ≡ passed b ∷ os
+    after_is = back ∙ ap (λ (x : Begun). x ∷ os) passes
 
-      as_many : length (stacked fs) ≡ length ps
-      as_many = let b = ap length before in let c = ap length back in let n = stacked_length ps in omega arith
+    lighter : weight ps < weight bs
+    lighter = falls_passed bs os b popped ps p back less
 
-      pub enters : (qs : List Frame) → length ps < 64 → qs ≡ ps ++ new ∷ [] →
-          Entered H (begun_of new) (stacked fs) (stacked qs) × (weight (stacked qs) < weight (stacked fs))
-      enters qs few e =
-          let n = newest_last qs ps new e in
-          let k : length (stacked fs) < 64 = let m = as_many in omega arith in (
+    pub meets_null : pointed H b ≡ 0 → Null H bs ps × (weight ps < weight bs)
+    meets_null z = (record { newest = b; others = os; before = popped; more = comes; null = z; after = after_is }, lighter)
+
+    module _ (new : Begun) (begins : Begins H b new) (qs : List Begun) where
+      pub enters : true ≡ ltb (length ps) 64 → qs ≡ new ∷ ps → Entered H new bs qs × (weight qs < weight bs)
+      enters t e =
+          let k : length bs < 64 = let l = ltb-true (length ps) 64 (sym t) in let m = as_many in omega arith in (
             record {
-              newest = begun_of f;
-              others = stacked os;
-              before = before;
-              more = ltb-true f.row (rows (shape_meant f.held.shape)) more;
+              newest = b;
+              others = os;
+              before = popped;
+              more = comes;
               live = begins.live;
               few = k;
               begins = begins.begins;
-              after = n ∙ ap (λ (bs : List Begun). begun_of new ∷ bs) after;
+              after = e ∙ ap (λ (x : List Begun). new ∷ x) after_is;
             },
-            falls_entered (stacked fs) (stacked os) (begun_of f) before (stacked qs) (begun_of p) (begun_of new) (n ∙ ap (λ (bs : List Begun). begun_of new ∷ bs) back) less begins.light k,
+            falls_entered bs os b popped qs p new (e ∙ ap (λ (x : List Begun). new ∷ x) back) less begins.light k,
           )
 
-      pub too_deep : (qs : List Frame) → length ps ≡ 64 → qs ≡ ps → TooDeep H (stacked fs) (stacked qs) × (weight (stacked qs) < weight (stacked fs))
-      too_deep qs full e =
-          let n = ap stacked e in (
-            record {
-              newest = begun_of f;
-              others = stacked os;
-              before = before;
-              more = ltb-true f.row (rows (shape_meant f.held.shape)) more;
-              live = begins.live;
-              full = as_many ∙ full;
-              after = n ∙ after;
-            },
-            falls_passed (stacked fs) (stacked os) (begun_of f) before (stacked qs) (begun_of p) (n ∙ back) less,
+      pub too_deep : false ≡ ltb (length ps) 64 → qs ≡ ps → TooDeep H bs qs × (weight qs < weight bs)
+      too_deep t e =
+          let k : length bs ≡ 64 = let l = ltb-false (length ps) 64 (sym t) in let m = as_many in omega arith in (
+            record { newest = b; others = os; before = popped; more = comes; live = begins.live; full = k; after = e ∙ after_is },
+            falls_passed bs os b popped qs p (e ∙ back) less,
           )

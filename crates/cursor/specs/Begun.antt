@@ -1,5 +1,5 @@
 -- A cursor means the objects that are begun, the newest first, each with the pointer that comes next.
-use Rattle.std.specs.Prelude.{ℕ, ◌+◌, cond, List, map, reverse, ◌==◌, nat_lt}
+use Rattle.std.specs.Prelude.{ℕ, zero, suc, ◌+◌, cond, List, [], ◌∷◌, ◌==◌, nat_lt, slice_index_or}
 use Rattle.tree.specs.Value.{Shape, rows, pointers, slot}
 use Rattle.tree.specs.Shows.{Memory, Landing, land}
 use Rattle.tree.specs.Decode.{shape_at}
@@ -31,8 +31,13 @@ no_frame = record {
   pointer = 0;
 }
 
+-- the first n frames, the last of them first
+abbrev pub newest : (n : ℕ) → List Frame → List Begun
+newest zero fs = []
+newest (suc n) fs = begun_of (slice_index_or fs n no_frame) ∷ newest n fs
+
 abbrev pub stack : Cursor → List Begun
-stack c = map begun_of (reverse c.frames.items)
+stack c = newest c.depth c.frames
 
 -- ## One object
 

@@ -64,6 +64,12 @@ abbrev pub Advanced : Memory → Option Event → (bs bs' : List Begun) → Type
 Advanced H None bs bs' = (bs ≡ []) × (bs' ≡ [])
 Advanced H (Some e) bs bs' = Happened H e bs bs'
 
+-- ## The newest taken away, and one more
+
+abbrev pub Popped : Option Frame → (bs bs' : List Begun) → Type 0
+Popped None bs bs' = (bs ≡ []) × (bs' ≡ [])
+Popped (Some f) bs bs' = bs ≡ begun_of f ∷ bs'
+
 -- ## The pointer that comes next
 
 -- its object begins, with fewer pointers than 2 ^ 66

@@ -2,10 +2,8 @@
 // memory of words, so whoever walks may change words that the walk has left.
 #![tactic(auto)]
 
-ghost use Rattle.std.specs.Prelude.{◌≡◌, ◌≤◌, ⊤, length};
+ghost use Rattle.std.specs.Prelude.{◌≡◌, ◌≤◌, length};
 
-use arrayvec::ArrayVec;
-use std::alloc::AllocError;
 use walk::held::Held;
 
 mod objects;
@@ -19,22 +17,14 @@ pub struct Frame {
     pub pointer: u32,
 }
 
-// At most 64 objects begun, each below the one before it.
-#[derive(Drop)]
+// At most 64 objects begun, each below the one before it. The frames are an array, and no `ArrayVec`, so that a cursor is `Copy`: a walk can be
+// gone on with from one place twice.
+#[derive(Clone, Copy)]
 pub struct Cursor {
-    frames: ArrayVec<Frame, 64>,
-    ghost few: { length frames.items ≤ 64 },
-}
-
-impl Clone for Cursor {
-    ghost is_clone = { λ a b. b.frames.items ≡ a.frames.items };
-
-    ghost is_infallible = { λ _. ⊤ };
-
-    fn clone(&self) -> Result<Cursor, AllocError> {
-        let frames = ArrayVec::try_from(self.frames.as_slice()).unwrap();
-        Ok(Cursor { frames })
-    }
+    depth: usize,
+    frames: [Frame; 64],
+    ghost few: { depth ≤ 64 },
+    ghost whole: { length frames ≡ 64 },
 }
 
 // What a cursor met: a null pointer, an object that begins or ends, or an object with 64 others above it, which is passed over.

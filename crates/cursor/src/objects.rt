@@ -3,18 +3,17 @@ ghost use Rattle.std.specs.Prelude.{◌≡◌, ◌^◌, ◌<◌, nat_lt};
 ghost use Rattle.tree.specs.Value.{rows};
 ghost use Rattle.tree.specs.Words.{word as memory};
 ghost use Rattle.walk.specs.Spots.{counted_word};
-ghost use Rattle.walk.specs.Landings.{landing_of};
 ghost use Rattle.walk.specs.Shapes.{shape_meant};
-ghost use Rattle.cursor.specs.Begun.{no_frame, begun_of, begun_as, next_word, passed};
+ghost use Rattle.cursor.specs.Begun.{no_frame, begun_of, begun, next_word, passed};
 ghost use Rattle.cursor.specs.Steps.{Child};
 ghost use Rattle.cursor.specs.Weight.{left};
 
 use super::Frame;
 use segments::reading::Reading;
-use walk::held::{Held, hold};
-use walk::landing::Landing;
+use walk::held::{Held, shape_of};
+use walk::landing::{Landing, follow};
 use walk::shape::Shape;
-use walk::spot::Spot;
+use walk::spot::{Spot, word_at};
 use wire::pointers::WirePointer;
 use wire::sizes::StructSize;
 
@@ -46,18 +45,20 @@ impl Default for Frame {
 }
 
 impl Frame {
-    // The object begins.
-    pub(crate) fn begin(held: Held) -> Frame
-        ensures value { begun_of result ≡ begun_as (landing_of held.landing) (shape_meant held.shape) }
+    // The object of the slot, which begins.
+    pub(crate) fn begin<R: Reading>(reading: &R, slot: Spot) -> Frame
+        ensures value { begun_of result ≡ begun (memory (R.Reading.segments reading.now)) slot.segment slot.word }
         ensures light { left (begun_of result) < 2 ^ 66 }
     {
-        let row = if held.shape.pointers() == 0 {
-            held.shape.rows()
+        let landing = follow(reading, slot);
+        let shape = shape_of(reading, landing);
+        let row = if shape.pointers() == 0 {
+            shape.rows()
         } else {
             0
         };
         Frame {
-            held,
+            held: Held { landing, shape },
             row,
             pointer: 0,
         }
@@ -77,12 +78,15 @@ impl Frame {
         self.held.slot(self.row, self.pointer)
     }
 
-    // The object of that slot, which begins; none where the slot is null.
+    // The object of that slot, which begins; none where the slot is null, which is seen before anything is made for an object.
     pub(crate) fn child<R: Reading>(self, reading: &R) -> Option<Frame>
         ensures value { Child (memory (R.Reading.segments reading.now)) (begun_of self) result }
     {
-        let held = hold(reading, self.slot()?)?;
-        Some(Frame::begin(held))
+        let slot = self.slot()?;
+        if word_at(reading, slot) == 0 {
+            return None;
+        }
+        Some(Frame::begin(reading, slot))
     }
 
     // After that pointer.

@@ -1,21 +1,24 @@
 // The page source: eight pages of 256 words inside it, granted one by one.
 #![tactic(auto)]
 
-ghost use Rattle.std.specs.Prelude.{◌≡◌, []};
-ghost use Rattle.arrayvec.specs.ArrayVec.{array_vec_len};
+ghost use Rattle.std.specs.Prelude.{◌≡◌, ℕ, ◌+◌, ◌<◌, ◌≤◌, [], length, take, slice_index_or};
+ghost use Rattle.segments.specs.Memory.{with_zeros};
 ghost use Rattle.pages.specs.Bounds.{page_bounds};
-ghost use Rattle.pages.specs.Paged.{page_offers};
+ghost use Rattle.pages.specs.Paged.{page_offers, Paged};
 ghost use Rattle.pages.specs.Faults.{page_fault};
 
-use arrayvec::ArrayVec;
 use segments::reading::Reading;
 use segments::refusal::{Outside, Refusal};
 use segments::source::Source;
 
-// The pages that are granted, eight at most: segment g is page g.
+// Eight pages, of which the first `used` are granted: segment g is page g. They are an array with a count, and no `ArrayVec`, whose `clear` and
+// `push` would write each page once more: a page is zeroed in place when it is granted, and taking back writes no page.
 #[derive(Drop)]
 pub struct Pages {
-    pages: ArrayVec<[u64; 256], 8>,
+    pages: [[u64; 256]; 8],
+    used: usize,
+    ghost few: { used ≤ 8 },
+    ghost rows: { ((g : ℕ) → g < 8 → length (slice_index_or pages g []) ≡ 256) },
 }
 
 // Why a page is refused: none is left, or the minimum is 0 or does not fit into one. It has the pages that are left.
@@ -27,67 +30,96 @@ pub struct PageFault {
 impl Pages {
     // Eight pages, none of them granted.
     pub fn new() -> Pages
-        ensures segments { result.pages.items ≡ [] }
-        ensures offers { page_offers (array_vec_len result.pages) ≡ page_offers 0 }
+        ensures segments { take result.used result.pages ≡ [] }
+        ensures offers { page_offers result.used ≡ page_offers 0 }
     {
         Pages {
-            pages: ArrayVec::new(),
+            pages: [[0; 256]; 8],
+            used: 0,
         }
+    }
+
+    // Whether page `g` is granted.
+    fn granted(&self, g: usize) -> bool
+        ensures answer { Paged result self.now.pages self.now.used g }
+    {
+        g < self.used
+    }
+
+    // Zeroes the next page in place.
+    fn wipe(&mut self)
+        requires left { self.old.used < 8 }
+        ensures page { take (self.new.used + 1) self.new.pages ≡ with_zeros (take self.old.used self.old.pages) 256 }
+        ensures used { self.new.used ≡ self.old.used }
+    {
+        self.pages[self.used] = [0; 256];
     }
 }
 
 impl Reading for Pages {
-    ghost segments = { λ p. p.pages.items };
+    ghost segments = { λ p. take p.used p.pages };
 
     fn count(&self) -> usize {
-        self.pages.len()
+        self.used
     }
 
     fn length(&self, g: usize) -> Option<usize> {
-        self.pages.get(g).map(|page| page.as_slice().len())
+        self.granted(g).then_some(256)
     }
 
     fn read(&self, g: usize, w: usize) -> Option<u64> {
-        self.pages.get(g)?.get(w).copied()
+        if !self.granted(g) {
+            return None;
+        }
+        if w < 256 {
+            Some(self.pages[g][w])
+        } else {
+            None
+        }
     }
 }
 
 impl Source for Pages {
     type Fault = PageFault;
 
-    ghost offers = { λ p. page_offers (array_vec_len p.pages) };
+    ghost offers = { λ p. page_offers p.used };
 
     ghost first = { λ p. page_offers 0 };
 
-    ghost fault = { λ p _. page_fault (array_vec_len p.pages) };
+    ghost fault = { λ p _. page_fault p.used };
 
-    ghost bounds = { λ p. page_bounds (array_vec_len p.pages) };
+    ghost bounds = { λ p. page_bounds p.used };
 
     fn offer(&self, m: u32) -> Option<u32> {
-        (!self.pages.is_full() && (1..=256).contains(&m)).then_some(256)
+        (self.used < 8 && (1..=256).contains(&m)).then_some(256)
     }
 
     fn write(&mut self, g: usize, w: usize, v: u64) -> Result<(), Outside> {
-        self.read(g, w).ok_or(Outside {
-            segment: g,
-            word: w,
-        })?;
-        self.pages[g].as_mut_slice()[w] = v;
+        if !self.granted(g) || w >= 256 {
+            return Err(Outside {
+                segment: g,
+                word: w,
+            });
+        }
+        self.pages[g][w] = v;
         Ok(())
     }
 
     fn grant(&mut self, m: u32) -> Result<u32, Refusal<PageFault>> {
-        let c = self.offer(m).ok_or(Refusal {
-            minimum: m,
-            fault: PageFault {
-                left: self.pages.remaining_capacity(),
-            },
-        })?;
-        self.pages.push([0; 256]);
+        let Some(c) = self.offer(m) else {
+            return Err(Refusal {
+                minimum: m,
+                fault: PageFault {
+                    left: 8 - self.used,
+                },
+            });
+        };
+        self.wipe();
+        self.used += 1;
         Ok(c)
     }
 
     fn take_back(&mut self) {
-        self.pages.clear();
+        self.used = 0;
     }
 }

@@ -1,0 +1,2 @@
+-- Lemmas on the first pages of a list.
+pub mod Rows
