@@ -33,11 +33,11 @@ impl fmt::Display for Deed<'_> {
                 write!(f, "set up a struct of {sections} {at}")
             }
             Action::List { code, count } => {
-                let elements = Counted(*count, "element");
+                let elements = Counted(u64::from(*count), "element", "elements");
                 write!(f, "set up a list of {elements} of code {code} {at}")
             }
             Action::Rows { count, size } => {
-                let (rows, sections) = (Counted(*count, "row"), Sections(*size));
+                let (rows, sections) = (Counted(u64::from(*count), "row", "rows"), Sections(*size));
                 write!(f, "set up a struct list of {rows} of {sections} {at}")
             }
             Action::GrowStruct(size) => {

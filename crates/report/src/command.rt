@@ -17,7 +17,7 @@ impl fmt::Display for Origin<'_> {
     fn fmt<W: fmt::Write>(&self, f: &mut fmt::Formatter<W>) -> fmt::Result {
         match self.0.base {
             Base::Slab { words, step } => {
-                let words = Counted(words, "word");
+                let words = Counted(u64::from(words), "word", "words");
                 write!(f, "take segments from a slab of {words} in steps of {step}")?;
             }
             Base::Pages => write!(f, "take segments from eight pages of 256 words")?,
@@ -26,7 +26,7 @@ impl fmt::Display for Origin<'_> {
             match *layer {
                 Layer::Scratch => write!(f, ", with scratch words first")?,
                 Layer::Quota { limit } => {
-                    let words = Counted(limit, "word");
+                    let words = Counted(u64::from(limit), "word", "words");
                     write!(f, ", within a quota of {words}")?;
                 }
             }
@@ -44,7 +44,7 @@ impl fmt::Display for Plan<'_> {
             Command::Dump => write!(f, "print every segment"),
             Command::Frame => write!(f, "print the framed bytes"),
             Command::Grant { minimum } => {
-                let words = Counted(*minimum, "word");
+                let words = Counted(u64::from(*minimum), "word", "words");
                 write!(f, "ask the source for a segment of {words} at least")
             }
             Command::End => write!(f, "end the case"),

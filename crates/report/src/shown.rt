@@ -3,15 +3,15 @@ use path::place::Place;
 use std::fmt;
 use wire::sizes::StructSize;
 
-// A number with the noun that it counts, whose plural has an s.
+// A number with the noun that it counts, for one and for any other number.
 #[derive(Clone, Copy)]
-pub struct Counted(pub u32, pub &'static str);
+pub struct Counted(pub u64, pub &'static str, pub &'static str);
 
 impl fmt::Display for Counted {
     fn fmt<W: fmt::Write>(&self, f: &mut fmt::Formatter<W>) -> fmt::Result {
-        let Counted(count, noun) = *self;
-        let plural = if count == 1 { "" } else { "s" };
-        write!(f, "{count} {noun}{plural}")
+        let Counted(count, one, many) = *self;
+        let noun = if count == 1 { one } else { many };
+        write!(f, "{count} {noun}")
     }
 }
 
@@ -21,8 +21,8 @@ pub struct Sections(pub StructSize);
 
 impl fmt::Display for Sections {
     fn fmt<W: fmt::Write>(&self, f: &mut fmt::Formatter<W>) -> fmt::Result {
-        let data = Counted(u32::from(self.0.data), "data word");
-        let pointers = Counted(u32::from(self.0.pointers), "pointer");
+        let data = Counted(u64::from(self.0.data), "data word", "data words");
+        let pointers = Counted(u64::from(self.0.pointers), "pointer", "pointers");
         write!(f, "{data} and {pointers}")
     }
 }
@@ -50,10 +50,13 @@ impl fmt::Display for Quote<'_> {
     fn fmt<W: fmt::Write>(&self, f: &mut fmt::Formatter<W>) -> fmt::Result {
         write!(f, "\"")?;
         for b in self.0 {
-            let c = char::from(*b);
-            match c {
-                '"' | '\\' => write!(f, "\\{c}")?,
-                ' '..='~' => write!(f, "{c}")?,
+            match *b {
+                b'"' => write!(f, "\\\"")?,
+                b'\\' => write!(f, "\\\\")?,
+                b' '..=b'~' => {
+                    let c = char::from(*b);
+                    write!(f, "{c}")?
+                }
                 _ => write!(f, "\\x{b:02x}")?,
             }
         }

@@ -40,8 +40,11 @@ fn segments<S: Source>(rt: &HostRuntime, source: &S) -> anyhow::Result<()> {
     Ok(())
 }
 
-// What is to be done over a source and some of the layers that a case names.
+// What is to be done over a source, and over a source under some of the layers that a case names. A source with all its layers goes to the task
+// by `alone`: each number of layers then has a way of its own, and no source is copied from one to another.
 trait Task {
+    fn alone<S: Source + Drop>(&self, source: S) -> anyhow::Result<()>;
+
     fn over<S: Source + Drop>(&self, source: S, layers: &[Layer]) -> anyhow::Result<()>;
 }
 
@@ -53,7 +56,7 @@ struct Lines<'a> {
 }
 
 impl Task for Lines<'_> {
-    fn over<S: Source + Drop>(&self, mut source: S, _layers: &[Layer]) -> anyhow::Result<()> {
+    fn alone<S: Source + Drop>(&self, mut source: S) -> anyhow::Result<()> {
         let rt = self.rt;
         for numbered in self.lines {
             let entry = Entry(numbered);
@@ -67,6 +70,10 @@ impl Task for Lines<'_> {
         }
         Ok(())
     }
+
+    fn over<S: Source + Drop>(&self, source: S, _layers: &[Layer]) -> anyhow::Result<()> {
+        self.alone(source)
+    }
 }
 
 // A task under one layer more, if there is one.
@@ -74,9 +81,13 @@ impl Task for Lines<'_> {
 struct Layered<T>(T);
 
 impl<T: Task> Task for Layered<T> {
+    fn alone<S: Source + Drop>(&self, source: S) -> anyhow::Result<()> {
+        self.0.alone(source)
+    }
+
     fn over<S: Source + Drop>(&self, source: S, layers: &[Layer]) -> anyhow::Result<()> {
         match layers.split_first() {
-            None => self.0.over(source, layers),
+            None => self.alone(source),
             Some((Layer::Scratch, rest)) => self.0.over(Scratch::new(source), rest),
             Some((Layer::Quota { limit }, rest)) => {
                 self.0.over(Quota::new(source, u64::from(*limit)), rest)

@@ -126,12 +126,13 @@ pub fn read_script(heap: Global, text: &str) -> Result<Script, AllocError> {
         bad: Vec::new(heap),
     };
     let mut stage = Stage::Outside;
+    let mut last = 0;
     for (text_line, number) in text.lines().zip(1..) {
         let line = cut_line(heap, text_line)?;
         stage = script.turn(heap, number, &line, stage)?;
+        last = number;
     }
     if stage == Stage::Named {
-        let last = text.lines().count();
         script.note(last, Fault::NoSource, String::from_str(heap, "the end")?)?;
     }
     Ok(script)
